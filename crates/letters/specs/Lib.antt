@@ -1,0 +1,4 @@
+pub mod Order
+pub mod Modes
+pub mod Taps
+pub mod Kinds
