@@ -1,0 +1,32 @@
+use mathlib.Core.Path.{refl}
+use Prim.Native.Nat.{_≤_}
+use borrow.Author.Needs.{needs}
+use native.Mathlib.Omega.{arith}
+use Rattle.std.proofs.shelf.Results.{err-from-errBy}
+use Rattle.files.proofs.Reading.{code-fault, stands-within, reads-within, stands-part}
+use Rattle.files.proofs.reader.Reader.next.Needs as need
+
+pub returns-in-Break-plate : need.returns-in-Break-plate
+returns-in-Break-plate c =
+    let p = err-from-errBy (c .from-residual .result) (c .from-residual .ensures .1) in
+    rw (p .1, p .2) (omega arith, c .in-Break-plate .ensures tt _, refl)
+
+pub returns-in-Break-end : need.returns-in-Break-end
+returns-in-Break-end c =
+    let p = err-from-errBy (c .from-residual-in-Break-end .result) (c .from-residual-in-Break-end .ensures .1) in
+    let (cs, j, read, due, fault) = c .in-Break-end .ensures tt in
+    rw (p .1, p .2) (omega arith, code-fault _ _ _ _ j _ (_, _, _, cs, c .in-Continue-plate .ensures tt, read, due) fault, refl)
+
+pub part-codes-end : need.part-codes-end
+part-codes-end c =
+    let (m, plate, count, few) = c .in-Continue-plate .ensures tt in
+    let (cs, read, all) = c .in-Continue-end .ensures tt in
+    let next-within = reads-within _ _ _ _ count in
+    let end-within = stands-within _ _ _ _ (read .0) next-within in
+    let forward : c .in-Continue-plate .field-0 .next ≤ c .in-Continue-end .end = omega (arith, read .0 .1) in
+    search needs
+
+pub returns : need.returns
+returns c =
+    let (cs, read, count) = c .in-Continue-end .ensures tt in
+    (_, cs, c .in-Continue-plate .ensures tt, read, count, refl, stands-part _ _ _ _ (read .0), refl)

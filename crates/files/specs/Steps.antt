@@ -1,0 +1,39 @@
+-- What the reader's own functions promise each other.
+use Prim.Native.Nat.{ℕ, _<_}
+use mathlib.Core.List.{List}
+use mathlib.Core.Logic.{_⊎_}
+use mathlib.Core.Path.{_≡_}
+use lib.ListN.{length}
+use Rattle.std.specs.declared.result.Result.{Result}
+use Rattle.std.specs.declared.result.Result.the-variants.{Ok, Err}
+use Rattle.letters.specs.declared.kind.Kind.{Kind}
+use Rattle.letters.specs.Kinds.{IsCode}
+use Rattle.files.specs.declared.fault.FileFault.{FileFault}
+use Rattle.files.specs.declared.fault.FileFault.the-variants.{InRecord, NotACode}
+use Rattle.files.specs.declared.number.Number.{Number}
+use Rattle.files.specs.declared.number.NumberFault.{NumberFault}
+use Rattle.files.specs.declared.reader.Head.{Head}
+use Rattle.files.specs.Numbers.{Reads, NumberAt}
+use Rattle.files.specs.Records.{HeadRead, CodesRead, RecordFault}
+
+-- The number at a place, or its fault as one of the record.
+abbrev pub NumberIn : List ℕ → ℕ → ℕ → Result Number FileFault → Type 0
+NumberIn bs i place (Ok x) = Reads bs i (x .value) (x .next)
+NumberIn bs i place (Err fault) = (f : NumberFault) × (fault ≡ InRecord f place) × NumberAt bs i (Err f)
+
+-- The plate and the count of the record at a place, or the fault of the record, whatever the kind.
+abbrev pub HeadAt : List ℕ → ℕ → ℕ → Result Head FileFault → Type 0
+HeadAt bs last i (Ok h) = HeadRead bs last i (h .plate) (h .count) (h .next)
+HeadAt bs last i (Err fault) = (k : Kind) → RecordFault k bs last i fault
+
+-- The fault of the number at place j, where a code is due.
+abbrev pub CodeFault : Kind → List ℕ → ℕ → ℕ → FileFault → Type 0
+CodeFault k bs j place fault =
+    ((f : NumberFault) × (fault ≡ InRecord f place) × NumberAt bs j (Err f))
+    ⊎ ((n : ℕ) × (m : ℕ) × (fault ≡ NotACode j) × Reads bs j n m × (IsCode k n → ⊥))
+
+-- So many codes from place i on, and where they end; or the fault of the first number that is none.
+abbrev pub CodesAt : Kind → List ℕ → ℕ → ℕ → ℕ → Result ℕ FileFault → Type 0
+CodesAt k bs i count place (Ok j) = (cs : List ℕ) × CodesRead k bs i cs j × (length cs ≡ count)
+CodesAt k bs i count place (Err fault) =
+    (cs : List ℕ) × (j : ℕ) × CodesRead k bs i cs j × (length cs < count) × CodeFault k bs j place fault
