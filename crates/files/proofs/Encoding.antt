@@ -15,7 +15,7 @@ use Rattle.std.specs.shelf.Digits.{digitsOf}
 use Rattle.files.specs.declared.number.Number.{Number}
 use Rattle.files.specs.declared.number.NumberFault.{NumberFault}
 use Rattle.files.specs.declared.number.NumberFault.the-variants.{Missing, Padded, TooLong}
-use Rattle.files.specs.Numbers.{marked, encode, Stands, Reads, NumberAt}
+use Rattle.files.specs.Numbers.{marked, encode, Stands, Reads, NumberAt, NumberRead}
 
 -- Groups as bytes with a set top bit.
 abbrev mark : List ℕ → List ℕ
@@ -90,3 +90,6 @@ number-only bs i (Err (TooLong place)) h n j s =
     absurd
     (no-last-in-front 4 (digitsOf 128 (h .0)) (digitsOf 128 (n / 128)) (n % 128) (drop j bs) (omega arith) (omega arith)
       (ap (take 4) (sym (encode-front n (drop j bs)) ∙ sym (s .1 .0)) ∙ h .1))
+
+pub number-read : (bs : List ℕ) (i : ℕ) (r : Result Number NumberFault) → NumberAt bs i r → NumberRead bs i r
+number-read bs i r h = record { answer = h; only = number-only bs i r h }

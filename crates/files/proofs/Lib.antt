@@ -1,3 +1,4 @@
 pub mod Scanning
 pub mod Encoding
 pub mod Reading
+pub mod OneReading

@@ -42,3 +42,8 @@ NumberAt bs i (Ok x) = Reads bs i (x .value) (x .next)
 NumberAt bs i (Err (Missing place)) = (n : ℕ) × (drop i bs ≡ marked n) × (length (marked n) < 4) × (place ≡ i + length (marked n))
 NumberAt bs i (Err (Padded place)) = (take 1 (drop i bs) ≡ 128 ∷ []) × (place ≡ i)
 NumberAt bs i (Err (TooLong place)) = (n : ℕ) × (take 4 (drop i bs) ≡ marked n) × (length (marked n) ≡ 4) × (place ≡ i + 3)
+
+-- Reading at place i answers r: the number that stands there, and where a number stands it is given.
+pub record NumberRead (bs : List ℕ) (i : ℕ) (r : Result Number NumberFault) : Type 0 where
+  pub answer : NumberAt bs i r
+  pub only : (n j : ℕ) → Reads bs i n j → r ≡ Ok (record { value = n; next = j })

@@ -1,5 +1,5 @@
 -- Word files as bytes: what a file means, and what reading one record answers.
-use Prim.Native.Nat.{ℕ, _+_, _<_, _≤_}
+use Prim.Native.Nat.{ℕ, _^_, _<_, _≤_}
 use mathlib.Core.List.{List, [], _∷_, _++_}
 use mathlib.Core.Logic.{_⊎_}
 use mathlib.Core.Path.{_≡_}
@@ -34,6 +34,13 @@ encodeEntry e = encode (e .plate) ++ (encode (length (e .codes)) ++ encodeCodes 
 -- The bytes of a file: the kind's number, then the records to the end.
 abbrev pub encodeFile : Kind → List Entry → List ℕ
 encodeFile k es = encode (kindNumber k) ++ joined encodeEntry es
+
+-- What an entry must keep in a file of the kind, after a record of the plate `last` (0 before the first record).
+pub record Allowed (k : Kind) (last : ℕ) (e : Entry) : Type 0 where
+  pub rises : last < e .plate
+  pub number : e .plate < 2 ^ 28
+  pub few : length (e .codes) ≤ 4096
+  pub coded : All (IsCode k) (e .codes)
 
 -- The reader goes number by number, and each number must pass its check before the next is read. So far:
 
@@ -86,3 +93,15 @@ Next a (Ok (Some r)) b =
     × CodesRead (a .kind) (a .bytes .now) m cs (b .at) × (length cs ≡ r .count) × (r .place ≡ a .at) × (r .codes .now ≡ encodeCodes cs)
     × (b ≡ record { bytes = a .bytes; kind = a .kind; at = b .at; last = r .plate })
 Next a (Err fault) b = (a .at < length (a .bytes .now)) × RecordFault (a .kind) (a .bytes .now) (a .last) (a .at) fault × (b ≡ a)
+
+-- The answer is the entry e as a record, and the reader b stands behind it, at place j.
+abbrev pub Gives : Entry → ℕ → Result (Option Record) FileFault → Reader → Type 0
+Gives e j (Ok (Some r)) b = (r .plate ≡ e .plate) × (r .count ≡ length (e .codes)) × (r .codes .now ≡ encodeCodes (e .codes)) × (b .at ≡ j)
+Gives e j (Ok None) b = ⊥
+Gives e j (Err fault) b = ⊥
+
+-- A call of the reader a answers r and leaves the reader b. The record that it gives is the one that stands there, and where
+-- an allowed entry stands it is given.
+pub record NextRead (a : Reader) (r : Result (Option Record) FileFault) (b : Reader) : Type 0 where
+  pub answer : Next a r b
+  pub only : (e : Entry) (j : ℕ) → Allowed (a .kind) (a .last) e → Stands (a .bytes .now) (a .at) (encodeEntry e) j → Gives e j r b

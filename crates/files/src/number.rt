@@ -1,9 +1,7 @@
 //! Numbers in bytes: groups of seven bits, high group first, the shortest form, at most four bytes.
 
 ghost use mathlib.Core.Path.{_≡_};
-ghost use Prim.Native.Nat.{ℕ};
-ghost use Rattle.std.specs.declared.result.Result.the-variants.{Ok};
-ghost use Rattle.files.specs.Numbers.{NumberAt, Reads, numberFault};
+ghost use Rattle.files.specs.Numbers.{NumberRead, numberFault};
 
 /// A number as it was read: its value, and the place after its last byte.
 #[derive(Clone, Copy, PartialEq, Eq, Debug)]
@@ -50,8 +48,7 @@ const GROUPS: usize = 4;
 
 /// Reads the number that stands in `bytes` at the place `at`.
 pub fn read_number(bytes: &[u8], at: usize) -> Result<Number, NumberFault>
-    ensures answer { λ r. ⌜ NumberAt (now (bytes .entry)) at r ⌝ }
-    ensures only { λ r. ⌜ ((n j : ℕ) → Reads (now (bytes .entry)) at n j → r ≡ Ok (record { value = n; next = j })) ⌝ }
+    ensures { λ r. ⌜ NumberRead (now (bytes .entry)) at r ⌝ }
 {
     let mut value = 0u32;
     let mut place = at;

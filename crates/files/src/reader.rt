@@ -1,7 +1,7 @@
 //! Reading word files: over the caller's bytes, record by record.
 
 ghost use mathlib.Core.Path.{_≡_};
-ghost use Rattle.files.specs.Records.{Opened, Next};
+ghost use Rattle.files.specs.Records.{Opened, NextRead};
 ghost use Rattle.files.specs.Steps.{NumberIn, HeadAt, CodesAt};
 use crate::fault::FileFault;
 use crate::fault::FileFaultFromNumber;
@@ -54,7 +54,7 @@ impl<'a> Reader<'a> {
 
     /// Reads the next record, or none at the end. After a fault the reader is as it was.
     pub fn next(&mut self) -> Result<Option<Record<'a>>, FileFault>
-        ensures { λ r. ⌜ Next (now (self .entry)) r (now (self .exit)) ⌝ }
+        ensures { λ r. ⌜ NextRead (now (self .entry)) r (now (self .exit)) ⌝ }
     {
         let bytes = self.bytes;
         let place = self.at;

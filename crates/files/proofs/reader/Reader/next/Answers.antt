@@ -1,21 +1,28 @@
-use mathlib.Core.Path.{refl}
 use Prim.Native.Nat.{_≤_}
+use mathlib.Core.Path.{refl}
 use borrow.Author.Needs.{needs}
 use native.Mathlib.Omega.{arith}
 use Rattle.std.proofs.shelf.Results.{err-from-errBy}
+use Rattle.std.specs.declared.option.Option.the-variants.{None, Some}
+use Rattle.std.specs.declared.result.Result.the-variants.{Ok, Err}
+use Rattle.files.proofs.OneReading.{next-read}
 use Rattle.files.proofs.Reading.{code-fault, stands-within, reads-within, stands-part}
 use Rattle.files.proofs.reader.Reader.next.Needs as need
+
+pub returns-then-place-bytes : need.returns-then-place-bytes
+returns-then-place-bytes c =
+    next-read _ (Ok None) _ (omega arith, refl)
 
 pub returns-in-Break-plate : need.returns-in-Break-plate
 returns-in-Break-plate c =
     let p = err-from-errBy (c .from-residual .result) (c .from-residual .ensures .1) in
-    rw (p .1, p .2) (omega arith, c .in-Break-plate .ensures tt _, refl)
+    rw (p .1, p .2) (next-read _ (Err _) _ (omega arith, c .in-Break-plate .ensures tt _, refl))
 
 pub returns-in-Break-end : need.returns-in-Break-end
 returns-in-Break-end c =
     let p = err-from-errBy (c .from-residual-in-Break-end .result) (c .from-residual-in-Break-end .ensures .1) in
     let (cs, j, read, due, fault) = c .in-Break-end .ensures tt in
-    rw (p .1, p .2) (omega arith, code-fault _ _ _ _ j _ (_, _, _, cs, c .in-Continue-plate .ensures tt, read, due) fault, refl)
+    rw (p .1, p .2) (next-read _ (Err _) _ (omega arith, code-fault _ _ _ _ j _ (_, _, _, cs, c .in-Continue-plate .ensures tt, read, due) fault, refl))
 
 pub part-codes-end : need.part-codes-end
 part-codes-end c =
@@ -29,4 +36,4 @@ part-codes-end c =
 pub returns : need.returns
 returns c =
     let (cs, read, count) = c .in-Continue-end .ensures tt in
-    (_, cs, c .in-Continue-plate .ensures tt, read, count, refl, stands-part _ _ _ _ (read .0), refl)
+    next-read _ (Ok (Some _)) _ (_, cs, c .in-Continue-plate .ensures tt, read, count, refl, stands-part _ _ _ _ (read .0), refl)
