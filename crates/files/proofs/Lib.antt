@@ -2,3 +2,4 @@ pub mod Scanning
 pub mod Encoding
 pub mod Reading
 pub mod OneReading
+pub mod OneLetter

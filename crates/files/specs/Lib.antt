@@ -2,3 +2,4 @@ pub mod Numbers
 pub mod Faults
 pub mod Records
 pub mod Steps
+pub mod Words

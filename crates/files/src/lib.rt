@@ -3,6 +3,7 @@
 mod fault;
 mod number;
 mod reader;
+mod word;
 
 pub use fault::FileFault;
 pub use fault::FileFaultDisplay;
@@ -11,3 +12,4 @@ pub use number::NumberFault;
 pub use number::read_number;
 pub use reader::Reader;
 pub use reader::Record;
+pub use word::Letters;
