@@ -6,6 +6,7 @@ use mathlib.Core.Path.{_≡_, refl, sym, ap, subst, _∙_}
 use native.Mathlib.Omega.{arith}
 use lib.ListN.{length, drop, length-append, length-drop}
 use Rattle.std.proofs.shelf.Lists.{length-push, drop-drop, drop-at}
+use Rattle.std.proofs.shelf.Ways.{tells}
 use Rattle.std.specs.shelf.Lists.{All}
 use Rattle.std.specs.declared.option.Option.{Option}
 use Rattle.std.specs.declared.option.Option.the-variants.{None, Some}
@@ -13,14 +14,14 @@ use Rattle.std.specs.declared.result.Result.{Result}
 use Rattle.std.specs.declared.result.Result.the-variants.{Ok, Err}
 use Rattle.letters.specs.declared.kind.Kind.{Kind}
 use Rattle.letters.specs.declared.kind.Kind.the-variants.{Modes, Taps}
-use Rattle.letters.specs.Kinds.{IsCode}
+use Rattle.letters.specs.Kinds.{IsCode, kindNumber, kindOf}
 use Rattle.files.specs.declared.fault.FileFault.{FileFault}
 use Rattle.files.specs.declared.fault.FileFault.the-variants.{Number, InRecord, UnknownKind, PlateNotRising, CountTooLarge, NotACode}
 use Rattle.files.specs.declared.number.NumberFault.{NumberFault}
 use Rattle.files.specs.declared.reader.Record.{Record}
 use Rattle.files.specs.declared.reader.Reader.{Reader}
 use Rattle.files.specs.Numbers.{marked, encode, Stands, Reads, NumberAt}
-use Rattle.files.specs.Records.{Entry, Allowed, Gives, encodeCodes, encodeEntry, CodesRead, HeadRead, CountDue, CodeDue, RecordFault, Next, NextRead}
+use Rattle.files.specs.Records.{Entry, Allowed, Gives, encodeCodes, encodeEntry, CodesRead, HeadRead, CountDue, CodeDue, RecordFault, Next, NextRead, Opened, OpensAs, OpenRead}
 use Rattle.files.proofs.Encoding.{encode-unique, number-only}
 
 -- What stands in two parts: the second stands behind the first.
@@ -137,3 +138,29 @@ record-only a (Err f) b (inside, fault, same) e j allowed s = no-fault (a .kind)
 
 pub next-read : (a : Reader) (r : Result (Option Record) FileFault) (b : Reader) → Next a r b → NextRead a r b
 next-read a r b h = record { answer = h; only = record-only a r b h }
+
+same-kind : (k l : Kind) → kindNumber k ≡ kindNumber l → k ≡ l
+same-kind Modes Modes e = refl
+same-kind Modes Taps e = absurd (omega arith)
+same-kind Taps Modes e = absurd (omega arith)
+same-kind Taps Taps e = refl
+
+pub kind-from : (n : ℕ) (k : Kind) → Some k ≡ kindOf n → n ≡ kindNumber k
+kind-from n k e = grind (arith, tells)
+
+known-kind : (k : Kind) (n : ℕ) → n ≡ kindNumber k → kindOf n ≡ None → ⊥
+known-kind Modes n e none = let z : _≡_ {A = ℕ} 0 1 = cc (ap kindOf e) in omega arith
+known-kind Taps n e none = let z : _≡_ {A = ℕ} 0 1 = cc (ap kindOf e) in omega arith
+
+-- Where the number of a kind stands first, a reader of that kind is opened.
+open-only : (bs : List ℕ) (r : Result Reader FileFault) → Opened bs r → (k : Kind) (j : ℕ) → Reads bs 0 (kindNumber k) j → OpensAs k j r
+open-only bs (Ok a) (here, last, bytes) k j s = let same = reads-unique bs 0 (kindNumber (a .kind)) (kindNumber k) (a .at) j here s in (same-kind (a .kind) k (same .0), same .1)
+open-only bs (Err (Number f)) h k j s = reads-no-fault bs 0 (kindNumber k) j f s h
+open-only bs (Err (UnknownKind p)) (here, n, m, s′, none) k j s = known-kind k n (reads-unique bs 0 n (kindNumber k) m j s′ s .0) none
+open-only bs (Err (InRecord f p)) h k j s = h
+open-only bs (Err (PlateNotRising p)) h k j s = h
+open-only bs (Err (CountTooLarge p)) h k j s = h
+open-only bs (Err (NotACode p)) h k j s = h
+
+pub open-read : (bs : List ℕ) (r : Result Reader FileFault) → Opened bs r → OpenRead bs r
+open-read bs r h = record { answer = h; only = open-only bs r h }

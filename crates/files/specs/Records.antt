@@ -84,6 +84,16 @@ Opened bs (Err (PlateNotRising place)) = ⊥
 Opened bs (Err (CountTooLarge place)) = ⊥
 Opened bs (Err (NotACode place)) = ⊥
 
+-- The answer is a reader of the kind, whose first record is due at place j.
+abbrev pub OpensAs : Kind → ℕ → Result Reader FileFault → Type 0
+OpensAs k j (Ok a) = (a .kind ≡ k) × (a .at ≡ j)
+OpensAs k j (Err fault) = ⊥
+
+-- A reader is opened exactly where the number of a kind stands first.
+pub record OpenRead (bs : List ℕ) (r : Result Reader FileFault) : Type 0 where
+  pub answer : Opened bs r
+  pub only : (k : Kind) (j : ℕ) → Reads bs 0 (kindNumber k) j → OpensAs k j r
+
 -- What the next call on the reader a answers, and the reader b after it: none where no byte is left; the record that stands
 -- at its place, with the reader behind it; or the first fault, with the reader as it was.
 abbrev pub Next : Reader → Result (Option Record) FileFault → Reader → Type 0

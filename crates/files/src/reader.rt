@@ -1,7 +1,7 @@
 //! Reading word files: over the caller's bytes, record by record.
 
 ghost use mathlib.Core.Path.{_≡_};
-ghost use Rattle.files.specs.Records.{Opened, NextRead};
+ghost use Rattle.files.specs.Records.{OpenRead, NextRead};
 ghost use Rattle.files.specs.Steps.{NumberIn, HeadAt, CodesAt};
 use crate::fault::FileFault;
 use crate::fault::FileFaultFromNumber;
@@ -36,7 +36,7 @@ pub struct Reader<'a> {
 impl<'a> Reader<'a> {
     /// Reads the kind of the file in `bytes`, and stands before its first record.
     pub fn open(bytes: &'a [u8]) -> Result<Reader<'a>, FileFault>
-        ensures { λ r. ⌜ Opened (now (bytes .entry)) r ⌝ }
+        ensures { λ r. ⌜ OpenRead (now (bytes .entry)) r ⌝ }
     {
         let number = read_number(bytes, 0)?;
         match Kind::from_number(number.value) {
