@@ -127,13 +127,16 @@ module _ (k : Kind) (bs : List ℕ) (last i : ℕ) (e : Entry) (j : ℕ) (allowe
 
 -- Where an allowed entry stands, the reader gives it.
 record-only : (a : Reader) (r : Result (Option Record) FileFault) (b : Reader) → Next a r b → (e : Entry) (j : ℕ) → Allowed (a .kind) (a .last) e
-    → Stands (a .bytes .now) (a .at) (encodeEntry e) j → Gives e j r b
+    → Stands (a .bytes .now) (a .at) (encodeEntry e) j → Gives e (a .at) j r b
 record-only a (Ok None) b (end, same) e j allowed s = let x = parts (a .kind) (a .bytes .now) (a .last) (a .at) e j allowed s in reads-inside _ _ _ _ (x .plate) end
-record-only a (Ok (Some r)) b (m, cs, head, read, count, place, bytes, same) e j allowed s =
-    let x = parts (a .kind) (a .bytes .now) (a .last) (a .at) e j allowed s in
-    let h = head-same (a .kind) (a .bytes .now) (a .last) (a .at) e j allowed s (r .plate) (r .count) m head in
-    let codes = codes-same (a .kind) (a .bytes .now) cs (e .codes) (x .codes-at) (b .at) j (subst (λ q. CodesRead (a .kind) (a .bytes .now) q cs (b .at)) (h .2) read) (x .codes) (count ∙ h .1) in
-    (h .0, h .1, bytes ∙ ap encodeCodes (codes .0), codes .1)
+record-only a (Ok (Some r)) b (e′, allowed′, s′, (plate, count, place, bytes), same) e j allowed s =
+    let k = a .kind in
+    let bs = a .bytes .now in
+    let x = parts k bs (a .last) (a .at) e j allowed s in
+    let x′ = parts k bs (a .last) (a .at) e′ (b .at) allowed′ s′ in
+    let head = head-same k bs (a .last) (a .at) e j allowed s (e′ .plate) (length (e′ .codes)) (x′ .codes-at) (x′ .count-at, (x′ .plate, allowed′ .rises), x′ .count, allowed′ .few) in
+    let codes = codes-same k bs (e′ .codes) (e .codes) (x .codes-at) (b .at) j (subst (λ q. CodesRead k bs q (e′ .codes) (b .at)) (head .2) (x′ .codes)) (x .codes) (head .1) in
+    ((plate ∙ head .0, count ∙ head .1, place, bytes ∙ ap encodeCodes (codes .0)), codes .1)
 record-only a (Err f) b (inside, fault, same) e j allowed s = no-fault (a .kind) (a .bytes .now) (a .last) (a .at) e j allowed s f fault
 
 pub next-read : (a : Reader) (r : Result (Option Record) FileFault) (b : Reader) → Next a r b → NextRead a r b

@@ -15,7 +15,7 @@ use Rattle.files.specs.declared.fault.FileFault.{FileFault}
 use Rattle.files.specs.declared.fault.FileFault.the-variants.{InRecord, NotACode}
 use Rattle.files.specs.declared.number.NumberFault.{NumberFault}
 use Rattle.files.specs.Numbers.{marked, encode, Stands, Reads, NumberAt}
-use Rattle.files.specs.Records.{encodeCodes, CodesRead, HeadRead, CountDue, CodeDue, RecordFault}
+use Rattle.files.specs.Records.{encodeCodes, CodesRead, HeadRead, CountDue, CodeDue, RecordFault, Entry, Allowed, encodeEntry}
 use Rattle.files.specs.Steps.{CodeFault}
 
 -- The fault of a number that is due is the fault of the record.
@@ -54,3 +54,12 @@ reads-within bs i n j (small, (p, q)) =
 -- What stands in the bytes is the part of them from its place to its end.
 pub stands-part : (bs s : List ℕ) (i j : ℕ) → Stands bs i s j → take (j - i) (drop i bs) ≡ s
 stands-part bs s i j (p, q) = ap (take (j - i)) p ∙ take-at s (drop j bs) (j - i) (omega (arith, q))
+
+-- A head and its codes are an allowed entry.
+pub entry-stands : (k : Kind) (bs cs : List ℕ) (last i plate count m j : ℕ) → HeadRead bs last i plate count m → CodesRead k bs m cs j → length cs ≡ count
+    → let e : Entry = record { plate = plate; codes = cs } in Allowed k last e × Stands bs i (encodeEntry e) j
+entry-stands k bs cs last i plate count m j (n, ((number, plate-here), rises), (count-number, count-here), few) (codes-here, all) e =
+    ( record { rises = rises; number = number; few = rw e few; coded = all }
+    , stands-append bs (encode plate) (encode (length cs) ++ encodeCodes cs) i n j plate-here
+      (stands-append bs (encode (length cs)) (encodeCodes cs) n m j (rw e count-here) codes-here)
+    )

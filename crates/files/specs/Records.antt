@@ -94,24 +94,27 @@ pub record OpenRead (bs : List ℕ) (r : Result Reader FileFault) : Type 0 where
   pub answer : Opened bs r
   pub only : (k : Kind) (j : ℕ) → Reads bs 0 (kindNumber k) j → OpensAs k j r
 
+-- The record shows the entry, which starts at the place: its plate, its letter count, and the bytes of its codes.
+abbrev pub Shows : Entry → ℕ → Record → Type 0
+Shows e place r = (r .plate ≡ e .plate) × (r .count ≡ length (e .codes)) × (r .place ≡ place) × (r .codes .now ≡ encodeCodes (e .codes))
+
 -- What the next call on the reader a answers, and the reader b after it: none where no byte is left; the record that stands
 -- at its place, with the reader behind it; or the first fault, with the reader as it was.
 abbrev pub Next : Reader → Result (Option Record) FileFault → Reader → Type 0
 Next a (Ok None) b = (length (a .bytes .now) ≤ a .at) × (b ≡ a)
 Next a (Ok (Some r)) b =
-    (m : ℕ) × (cs : List ℕ) × HeadRead (a .bytes .now) (a .last) (a .at) (r .plate) (r .count) m
-    × CodesRead (a .kind) (a .bytes .now) m cs (b .at) × (length cs ≡ r .count) × (r .place ≡ a .at) × (r .codes .now ≡ encodeCodes cs)
-    × (b ≡ record { bytes = a .bytes; kind = a .kind; at = b .at; last = r .plate })
+    (e : Entry) × Allowed (a .kind) (a .last) e × Stands (a .bytes .now) (a .at) (encodeEntry e) (b .at)
+    × Shows e (a .at) r × (b ≡ record { bytes = a .bytes; kind = a .kind; at = b .at; last = e .plate })
 Next a (Err fault) b = (a .at < length (a .bytes .now)) × RecordFault (a .kind) (a .bytes .now) (a .last) (a .at) fault × (b ≡ a)
 
--- The answer is the entry e as a record, and the reader b stands behind it, at place j.
-abbrev pub Gives : Entry → ℕ → Result (Option Record) FileFault → Reader → Type 0
-Gives e j (Ok (Some r)) b = (r .plate ≡ e .plate) × (r .count ≡ length (e .codes)) × (r .codes .now ≡ encodeCodes (e .codes)) × (b .at ≡ j)
-Gives e j (Ok None) b = ⊥
-Gives e j (Err fault) b = ⊥
+-- The answer is a record that shows the entry e, and the reader b stands behind it, at place j.
+abbrev pub Gives : Entry → ℕ → ℕ → Result (Option Record) FileFault → Reader → Type 0
+Gives e i j (Ok (Some r)) b = Shows e i r × (b .at ≡ j)
+Gives e i j (Ok None) b = ⊥
+Gives e i j (Err fault) b = ⊥
 
 -- A call of the reader a answers r and leaves the reader b. The record that it gives is the one that stands there, and where
 -- an allowed entry stands it is given.
 pub record NextRead (a : Reader) (r : Result (Option Record) FileFault) (b : Reader) : Type 0 where
   pub answer : Next a r b
-  pub only : (e : Entry) (j : ℕ) → Allowed (a .kind) (a .last) e → Stands (a .bytes .now) (a .at) (encodeEntry e) j → Gives e j r b
+  pub only : (e : Entry) (j : ℕ) → Allowed (a .kind) (a .last) e → Stands (a .bytes .now) (a .at) (encodeEntry e) j → Gives e (a .at) j r b

@@ -1,12 +1,12 @@
 use Prim.Native.Nat.{_≤_}
-use mathlib.Core.Path.{refl}
+use mathlib.Core.Path.{refl, sym}
 use borrow.Author.Needs.{needs}
 use native.Mathlib.Omega.{arith}
 use Rattle.std.proofs.shelf.Results.{err-from-errBy}
 use Rattle.std.specs.declared.option.Option.the-variants.{None, Some}
 use Rattle.std.specs.declared.result.Result.the-variants.{Ok, Err}
 use Rattle.files.proofs.OneReading.{next-read}
-use Rattle.files.proofs.Reading.{code-fault, stands-within, reads-within, stands-part}
+use Rattle.files.proofs.Reading.{code-fault, stands-within, reads-within, stands-part, entry-stands}
 use Rattle.files.proofs.reader.Reader.next.Needs as need
 
 pub returns-then-place-bytes : need.returns-then-place-bytes
@@ -36,4 +36,5 @@ part-codes-end c =
 pub returns : need.returns
 returns c =
     let (cs, read, count) = c .in-Continue-end .ensures tt in
-    next-read _ (Ok (Some _)) _ (_, cs, c .in-Continue-plate .ensures tt, read, count, refl, stands-part _ _ _ _ (read .0), refl)
+    let (allowed, stands) = entry-stands _ _ cs _ _ _ _ _ _ (c .in-Continue-plate .ensures tt) read count in
+    next-read _ (Ok (Some _)) _ (record { plate = _; codes = cs }, allowed, stands, (refl, sym count, refl, stands-part _ _ _ _ (read .0)), refl)
