@@ -3,3 +3,5 @@ pub mod Encoding
 pub mod Reading
 pub mod OneReading
 pub mod OneLetter
+pub mod Lines
+pub mod Progress

@@ -24,12 +24,17 @@ use Rattle.files.specs.Numbers.{marked, encode, Stands, Reads, NumberAt}
 use Rattle.files.specs.Records.{Entry, Allowed, Gives, encodeCodes, encodeEntry, CodesRead, HeadRead, CountDue, CodeDue, RecordFault, Next, NextRead, Opened, OpensAs, OpenRead}
 use Rattle.files.proofs.Encoding.{encode-unique, number-only}
 
--- What stands in two parts: the second stands behind the first.
+-- Bytes that come first stand at their place,
+pub front-stands : (bs s rest : List ℕ) (i : ℕ) → drop i bs ≡ s ++ rest → (drop (i + length s) bs ≡ rest) × Stands bs i s (i + length s)
+front-stands bs s rest i p =
+    let behind : drop (i + length s) bs ≡ rest = sym (drop-drop (length s) i bs) ∙ ap (drop (length s)) p ∙ drop-at s rest (length s) refl in
+    (behind, (p ∙ ap (λ x. s ++ x) (sym behind), refl))
+
+-- and of what stands in two parts, the second stands behind the first.
 pub stands-split : (bs s t : List ℕ) (i k : ℕ) → Stands bs i (s ++ t) k → (j : ℕ) × Stands bs i s j × Stands bs j t k
 stands-split bs s t i k (p, q) =
-    let whole : drop i bs ≡ s ++ (t ++ drop k bs) = p ∙ append-assoc s t (drop k bs) in
-    let behind : drop (i + length s) bs ≡ t ++ drop k bs = sym (drop-drop (length s) i bs) ∙ ap (drop (length s)) whole ∙ drop-at s (t ++ drop k bs) (length s) refl in
-    (i + length s, (whole ∙ ap (λ x. s ++ x) (sym behind), refl), (behind, omega (arith, q, length-append s t)))
+    let (behind, first) = front-stands bs s (t ++ drop k bs) i (p ∙ append-assoc s t (drop k bs)) in
+    (i + length s, first, (behind, omega (arith, q, length-append s t)))
 
 -- At a place stands one number at most, and it is not beyond the end.
 pub reads-unique : (bs : List ℕ) (i m n j k : ℕ) → Reads bs i m j → Reads bs i n k → (m ≡ n) × (j ≡ k)
@@ -43,7 +48,8 @@ reads-inside bs i n j (a, (p, q)) h =
 pub reads-no-fault : (bs : List ℕ) (i n j : ℕ) (f : NumberFault) → Reads bs i n j → NumberAt bs i (Err f) → ⊥
 reads-no-fault bs i n j f r h = let e = number-only bs i (Err f) h n j r in let z : _≡_ {A = ℕ} 0 1 = cc in omega arith
 
-code-number : (k : Kind) (n : ℕ) → IsCode k n → n < 268435456
+-- A code is a number of at most four groups.
+pub code-number : (k : Kind) (n : ℕ) → IsCode k n → n < 268435456
 code-number Modes n h = omega arith
 code-number Taps n h = omega arith
 

@@ -51,6 +51,10 @@ pub reads-within : (bs : List ℕ) (i n j : ℕ) → Reads bs i n j → j ≤ le
 reads-within bs i n j (small, (p, q)) =
     omega (arith, q, ap length p, length-drop i bs, length-drop j bs, length-append (encode n) (drop j bs), length-push (marked (n / 128)) (n % 128))
 
+-- A number has a byte at least.
+pub reads-forward : (bs : List ℕ) (i n j : ℕ) → Reads bs i n j → i < j
+reads-forward bs i n j (small, (p, q)) = omega (arith, q, length-push (marked (n / 128)) (n % 128))
+
 -- What stands in the bytes is the part of them from its place to its end.
 pub stands-part : (bs s : List ℕ) (i j : ℕ) → Stands bs i s j → take (j - i) (drop i bs) ≡ s
 stands-part bs s i j (p, q) = ap (take (j - i)) p ∙ take-at s (drop j bs) (j - i) (omega (arith, q))

@@ -3,3 +3,4 @@ pub mod Faults
 pub mod Records
 pub mod Steps
 pub mod Words
+pub mod Listing

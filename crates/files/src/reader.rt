@@ -52,6 +52,13 @@ impl<'a> Reader<'a> {
         self.kind
     }
 
+    /// The place of the next record, or of the end.
+    pub fn place(&self) -> usize
+        ensures { λ r. ⌜ r ≡ now (self .entry) .at ⌝ }
+    {
+        self.at
+    }
+
     /// Reads the next record, or none at the end. After a fault the reader is as it was.
     pub fn next(&mut self) -> Result<Option<Record<'a>>, FileFault>
         ensures { λ r. ⌜ NextRead (now (self .entry)) r (now (self .exit)) ⌝ }
