@@ -55,7 +55,7 @@ encode-front n xs = append-assoc (marked (n / 128)) (n % 128 ∷ []) xs
 pub encode-unique : (m n : ℕ) (xs ys : List ℕ) → encode m ++ xs ≡ encode n ++ ys → (m ≡ n) × (xs ≡ ys)
 encode-unique m n xs ys e =
     let groups = same-groups (digitsOf 128 (m / 128)) (digitsOf 128 (n / 128)) (m % 128) (n % 128) xs ys (omega arith) (omega arith)
-      (sym (encode-front m xs) ∙ e ∙ encode-front n ys) in
+    (sym (encode-front m xs) ∙ e ∙ encode-front n ys) in
     let high = same-from-digitsOf 128 (m / 128) (n / 128) (omega arith) (groups .0) in
     (omega (arith, groups .1), groups .2)
 
@@ -89,7 +89,7 @@ number-only bs i (Err (TooLong place)) h n j s =
     let few = length-digitsOf-le 128 3 (n / 128) (omega arith) (omega (arith, s .0)) in
     absurd
     (no-last-in-front 4 (digitsOf 128 (h .0)) (digitsOf 128 (n / 128)) (n % 128) (drop j bs) (omega arith) (omega arith)
-      (ap (take 4) (sym (encode-front n (drop j bs)) ∙ sym (s .1 .0)) ∙ h .1))
+    (ap (take 4) (sym (encode-front n (drop j bs)) ∙ sym (s .1 .0)) ∙ h .1))
 
 pub number-read : (bs : List ℕ) (i : ℕ) (r : Result Number NumberFault) → NumberAt bs i r → NumberRead bs i r
 number-read bs i r h = record { answer = h; only = number-only bs i r h }

@@ -40,14 +40,14 @@ shown-more bs old text text′ at n next s inside (small, (p, q)) e = record { s
     step : (cs : List ℕ) → Split bs at old text cs → Split bs next old text′ cs
     step cs (shown, [], whole, few, here, said) = absurd (omega (arith, ap length here, length-drop at bs))
     step cs (shown, c ∷ left, whole, few, here, said) =
-        let (is, rest) = encode-unique n c (drop next bs) (encodeCodes left) (sym p ∙ here) in
-        ( shown ++ (c ∷ [])
-        , left
-        , whole ∙ sym (append-assoc shown (c ∷ []) left)
-        , few .1
-        , rest
-        , e ∙ ap (λ x. x ++ (codes " " ++ decimal n)) said ∙ ap (λ m. (old ++ codesText shown) ++ (codes " " ++ decimal m)) is
-          ∙ joined-more (λ c. codes " " ++ decimal c) old shown c
+        let (is, rest) = encode-unique n c (drop next bs) (encodeCodes left) (sym p ∙ here) in (
+          shown ++ (c ∷ []),
+          left,
+          whole ∙ sym (append-assoc shown (c ∷ []) left),
+          few .1,
+          rest,
+          e ∙ ap (λ x. x ++ (codes " " ++ decimal n)) said ∙ ap (λ m. (old ++ codesText shown) ++ (codes " " ++ decimal m)) is
+              ∙ joined-more (λ c. codes " " ++ decimal c) old shown c,
         )
 
 -- At the end all of the word was shown.

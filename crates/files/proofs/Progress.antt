@@ -31,17 +31,17 @@ pub record Progress (a₀ : Reader) (old : List ℕ) (a : Reader) (text : List �
   pub within : a₀ .at ≤ length (a₀ .bytes .now) → a .at ≤ length (a₀ .bytes .now)
 
 pub progress-start : (a : Reader) (old : List ℕ) → Progress a old a old 0 0
-progress-start a old = record
-  { entries = []
-  ; same-bytes = refl
-  ; same-kind = refl
-  ; read = λ e. subst (λ n. Entries (a .kind) (a .bytes .now) (a .at) [] n (a .at)) (sym e) no-entry
-  ; said = sym (append-nil old)
-  ; plates-are = refl
-  ; letters-are = refl
-  ; passed = omega arith
-  ; within = λ h. h
-  }
+progress-start a old = record {
+  entries = [];
+  same-bytes = refl;
+  same-kind = refl;
+  read = λ e. subst (λ n. Entries (a .kind) (a .bytes .now) (a .at) [] n (a .at)) (sym e) no-entry;
+  said = sym (append-nil old);
+  plates-are = refl;
+  letters-are = refl;
+  passed = omega arith;
+  within = λ h. h;
+}
 
 -- An entry has more bytes than letters.
 number-long : (n : ℕ) → 0 < length (encode n)
@@ -53,12 +53,12 @@ codes-long (c ∷ cs) = omega (arith, length-append (encode c) (encodeCodes cs),
 
 entry-long : (e : Entry) → 1 + length (e .codes) ≤ length (encodeEntry e)
 entry-long e =
-    omega
-    ( arith
-    , length-append (encode (e .plate)) (encode (length (e .codes)) ++ encodeCodes (e .codes))
-    , length-append (encode (length (e .codes))) (encodeCodes (e .codes))
-    , number-long (e .plate)
-    , codes-long (e .codes)
+    omega (
+      arith,
+      length-append (encode (e .plate)) (encode (length (e .codes)) ++ encodeCodes (e .codes)),
+      length-append (encode (length (e .codes))) (encodeCodes (e .codes)),
+      number-long (e .plate),
+      codes-long (e .codes),
     )
 
 letters-push : (es : List Entry) (e : Entry) → letterCount (es ++ (e ∷ [])) ≡ letterCount es + length (e .codes)
@@ -74,19 +74,19 @@ module _ (a₀ : Reader) (old : List ℕ) (a : Reader) (text : List ℕ) (plates
       let bytes : b .bytes ≡ a₀ .bytes = ap (λ x. x .bytes) same ∙ s .same-bytes in
       let kind : b .kind ≡ a₀ .kind = ap (λ x. x .kind) same ∙ s .same-kind in
       let stands₀ : Stands (a₀ .bytes .now) (a .at) (encodeEntry e) (b .at) = subst (λ x. Stands (x .now) (a .at) (encodeEntry e) (b .at)) (s .same-bytes) stands in
-      record
-        { entries = s .entries ++ (e ∷ [])
-        ; same-bytes = bytes
-        ; same-kind = kind
-        ; read = λ first.
+      record {
+        entries = s .entries ++ (e ∷ []);
+        same-bytes = bytes;
+        same-kind = kind;
+        read = λ first.
             subst (λ n. Entries (a₀ .kind) (a₀ .bytes .now) (a₀ .at) (s .entries ++ (e ∷ [])) n (b .at)) (sym (ap (λ x. x .last) same))
-            (one-more (s .entries) (a .last) (a .at) e (b .at) (s .read first) (subst (λ k. Allowed k (a .last) e) (s .same-kind) allowed) stands₀)
-        ; said = line (a .kind) (a .last) (a .at) e allowed shows ∙ ap (λ x. x ++ entryLine e) (s .said) ∙ joined-more entryLine old (s .entries) e
-        ; plates-are = omega (arith, s .plates-are, length-push (s .entries) e)
-        ; letters-are = omega (arith, s .letters-are, letters-push (s .entries) e, shows .1)
-        ; passed = omega (arith, s .passed, stands .1, entry-long e, shows .1)
-        ; within = λ h. stands-within (a₀ .bytes .now) (encodeEntry e) (a .at) (b .at) stands₀ (s .within h)
-        }
+            (one-more (s .entries) (a .last) (a .at) e (b .at) (s .read first) (subst (λ k. Allowed k (a .last) e) (s .same-kind) allowed) stands₀);
+        said = line (a .kind) (a .last) (a .at) e allowed shows ∙ ap (λ x. x ++ entryLine e) (s .said) ∙ joined-more entryLine old (s .entries) e;
+        plates-are = omega (arith, s .plates-are, length-push (s .entries) e);
+        letters-are = omega (arith, s .letters-are, letters-push (s .entries) e, shows .1);
+        passed = omega (arith, s .passed, stands .1, entry-long e, shows .1);
+        within = λ h. stands-within (a₀ .bytes .now) (encodeEntry e) (a .at) (b .at) stands₀ (s .within h);
+      }
 
   -- The listing of the records, where they end or break off.
   abbrev Listing : List ℕ → Type 0
@@ -98,22 +98,22 @@ module _ (a₀ : Reader) (old : List ℕ) (a : Reader) (text : List ℕ) (plates
       let es = s .entries in
       let at-end : a .at ≡ length (a₀ .bytes .now) = omega (arith, end, s .within inside, ap (λ x. length (x .now)) (s .same-bytes)) in
       let line : totalLine plates letters (b .at) ≡ totalLine (length es) (letterCount es) (length (a₀ .bytes .now)) =
-          ap (λ n. totalLine n letters (b .at)) (s .plates-are) ∙ ap (λ n. totalLine (length es) n (b .at)) (s .letters-are)
-          ∙ ap (λ n. totalLine (length es) (letterCount es) n) (ap (λ x. x .at) same ∙ at-end) in
-      ( joined entryLine es ++ totalLine (length es) (letterCount es) (length (a₀ .bytes .now))
-      , to-end es (a .last) (subst (λ j. Entries (a₀ .kind) (a₀ .bytes .now) (a₀ .at) es (a .last) j) at-end (s .read first))
-      , e ∙ ap (λ x. x ++ totalLine plates letters (b .at)) (s .said) ∙ append-assoc old (joined entryLine es) (totalLine plates letters (b .at))
-        ∙ ap (λ x. old ++ (joined entryLine es ++ x)) line
+      ap (λ n. totalLine n letters (b .at)) (s .plates-are) ∙ ap (λ n. totalLine (length es) n (b .at)) (s .letters-are)
+      ∙ ap (λ n. totalLine (length es) (letterCount es) n) (ap (λ x. x .at) same ∙ at-end) in (
+        joined entryLine es ++ totalLine (length es) (letterCount es) (length (a₀ .bytes .now)),
+        to-end es (a .last) (subst (λ j. Entries (a₀ .kind) (a₀ .bytes .now) (a₀ .at) es (a .last) j) at-end (s .read first)),
+        e ∙ ap (λ x. x ++ totalLine plates letters (b .at)) (s .said) ∙ append-assoc old (joined entryLine es) (totalLine plates letters (b .at))
+            ∙ ap (λ x. old ++ (joined entryLine es ++ x)) line,
       )
 
   pub progress-fault : (b : Reader) (text′ : List ℕ) (f : FileFault) → Next a (Err f) b → a₀ .last ≡ 0 → text′ ≡ text ++ faultLine f → Listing text′
   progress-fault b text′ f (inside, fault, same) first e =
-      let es = s .entries in
-      ( joined entryLine es ++ faultLine f
-      , to-fault es (a .last) (a .at) f (s .read first) (omega (arith, inside, ap (λ x. length (x .now)) (s .same-bytes)))
-        (subst (λ k. RecordFault k (a₀ .bytes .now) (a .last) (a .at) f) (s .same-kind)
-          (subst (λ x. RecordFault (a .kind) (x .now) (a .last) (a .at) f) (s .same-bytes) fault))
-      , e ∙ ap (λ x. x ++ faultLine f) (s .said) ∙ append-assoc old (joined entryLine es) (faultLine f)
+      let es = s .entries in (
+        joined entryLine es ++ faultLine f,
+        to-fault es (a .last) (a .at) f (s .read first) (omega (arith, inside, ap (λ x. length (x .now)) (s .same-bytes)))
+            (subst (λ k. RecordFault k (a₀ .bytes .now) (a .last) (a .at) f) (s .same-kind)
+            (subst (λ x. RecordFault (a .kind) (x .now) (a .last) (a .at) f) (s .same-bytes) fault)),
+        e ∙ ap (λ x. x ++ faultLine f) (s .said) ∙ append-assoc old (joined entryLine es) (faultLine f),
       )
 
   -- The reader goes on with each record, so that a listing ends, and what it counts is no more than the bytes.
@@ -121,11 +121,11 @@ module _ (a₀ : Reader) (old : List ℕ) (a : Reader) (text : List ℕ) (plates
       → (a .at < b .at) × (b .at ≤ length (a .bytes .now)) × (length (b .bytes .now) ≡ length (a .bytes .now)) × ((plates + 1) + (letters + r .count) ≤ b .at)
   progress-forward r b (e, allowed, stands, shows, same) =
       let long = entry-long e in
-      let part = ap length (stands .0) in
-      ( omega (arith, stands .1)
-      , omega (arith, stands .1, part, length-drop (a .at) (a .bytes .now), length-drop (b .at) (a .bytes .now), length-append (encodeEntry e) (drop (b .at) (a .bytes .now)))
-      , ap (λ x. length (x .bytes .now)) same
-      , omega (arith, s .passed, stands .1, shows .1)
+      let part = ap length (stands .0) in (
+        omega (arith, stands .1),
+        omega (arith, stands .1, part, length-drop (a .at) (a .bytes .now), length-drop (b .at) (a .bytes .now), length-append (encodeEntry e) (drop (b .at) (a .bytes .now))),
+        ap (λ x. length (x .bytes .now)) same,
+        omega (arith, s .passed, stands .1, shows .1),
       )
 
 -- The listing of a file is its kind's line and the listing of its records.

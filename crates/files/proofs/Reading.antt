@@ -62,8 +62,8 @@ stands-part bs s i j (p, q) = ap (take (j - i)) p ∙ take-at s (drop j bs) (j -
 -- A head and its codes are an allowed entry.
 pub entry-stands : (k : Kind) (bs cs : List ℕ) (last i plate count m j : ℕ) → HeadRead bs last i plate count m → CodesRead k bs m cs j → length cs ≡ count
     → let e : Entry = record { plate = plate; codes = cs } in Allowed k last e × Stands bs i (encodeEntry e) j
-entry-stands k bs cs last i plate count m j (n, ((number, plate-here), rises), (count-number, count-here), few) (codes-here, all) e =
-    ( record { rises = rises; number = number; few = rw e few; coded = all }
-    , stands-append bs (encode plate) (encode (length cs) ++ encodeCodes cs) i n j plate-here
-      (stands-append bs (encode (length cs)) (encodeCodes cs) n m j (rw e count-here) codes-here)
-    )
+entry-stands k bs cs last i plate count m j (n, ((number, plate-here), rises), (count-number, count-here), few) (codes-here, all) e = (
+  record { rises = rises; number = number; few = rw e few; coded = all },
+  stands-append bs (encode plate) (encode (length cs) ++ encodeCodes cs) i n j plate-here
+      (stands-append bs (encode (length cs)) (encodeCodes cs) n m j (rw e count-here) codes-here),
+)

@@ -68,21 +68,21 @@ module _ (bs : List ℕ) (at group value place : ℕ) (s : Scanned bs at group v
         let m : 128 + b % 128 ≡ b = omega arith in
         let some′ : 0 < value * 128 + b % 128 = ⊎-elim (λ l. omega (arith, s .some l)) (λ z. ⊎-elim (λ l. omega arith) (λ l. absurd (⊎-elim (λ n. n .1 (omega arith)) (λ n. n (omega arith)) fresh)) (cases-lt 128 b)) (cases-lt 0 group) in
         let step = marked-step value (b % 128) (omega arith) some′ ∙ ap (λ x. marked value ++ (x ∷ [])) m in
-        record
-          { here = omega (arith, s .here)
-          ; seen = ap (take (group + 1)) (all ∙ sym (append-assoc (marked value) (b ∷ []) (drop (place + 1) bs)))
-              ∙ take-at (marked value ++ (b ∷ [])) (drop (place + 1) bs) (group + 1) (length-push (marked value) b ∙ ap (λ n. n + 1) (s .long)) ∙ sym step
-          ; long = ap length step ∙ length-push (marked value) b ∙ ap (λ n. n + 1) (s .long)
-          ; small = let p : 128 ^ (group + 1) ≡ 128 ^ group * 128 = rw (add-one, pow-suc) in omega (arith, s .small)
-          ; some = λ _. some′
-          }
+        record {
+          here = omega (arith, s .here);
+          seen = ap (take (group + 1)) (all ∙ sym (append-assoc (marked value) (b ∷ []) (drop (place + 1) bs)))
+              ∙ take-at (marked value ++ (b ∷ [])) (drop (place + 1) bs) (group + 1) (length-push (marked value) b ∙ ap (λ n. n + 1) (s .long)) ∙ sym step;
+          long = ap length step ∙ length-push (marked value) b ∙ ap (λ n. n + 1) (s .long);
+          small = let p : 128 ^ (group + 1) ≡ 128 ^ group * 128 = rw (add-one, pow-suc) in omega (arith, s .small);
+          some = λ _. some′;
+        }
 
     -- and any other byte is the number's last.
     pub scan-last : b < 128 → Reads bs at (value * 128 + b % 128) (place + 1)
     scan-last low =
-        let e : encode (value * 128 + b % 128) ≡ marked value ++ (b ∷ []) = encode-step value (b % 128) (omega arith) ∙ ap (λ x. marked value ++ (x ∷ [])) (omega arith) in
-        ( omega (arith, scan-fits)
-        , (all ∙ sym (append-assoc (marked value) (b ∷ []) (drop (place + 1) bs)) ∙ ap (λ x. x ++ drop (place + 1) bs) (sym e), omega (arith, ap length e, length-push (marked value) b, s .long, s .here))
+        let e : encode (value * 128 + b % 128) ≡ marked value ++ (b ∷ []) = encode-step value (b % 128) (omega arith) ∙ ap (λ x. marked value ++ (x ∷ [])) (omega arith) in (
+          omega (arith, scan-fits),
+          (all ∙ sym (append-assoc (marked value) (b ∷ []) (drop (place + 1) bs)) ∙ ap (λ x. x ++ drop (place + 1) bs) (sym e), omega (arith, ap length e, length-push (marked value) b, s .long, s .here)),
         )
 
 -- Four groups with the top bit set.

@@ -21,3 +21,6 @@ pub use number::read_number;
 pub use reader::Reader;
 pub use reader::Record;
 pub use word::Letters;
+
+#[cfg(test)]
+mod tests;

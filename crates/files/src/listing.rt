@@ -64,7 +64,10 @@ fn push_records(text: &mut String, heap: Global, reader: &mut Reader<'_>) -> Res
         };
         let Some(item) = next else {
             let bytes = reader.place();
-            let line = format!(heap, "# {plates} plates, {letters} letters, {bytes} bytes\n")?;
+            let line = format!(
+                heap,
+                "# {plates} plates, {letters} letters, {bytes} bytes\n"
+            )?;
             text.push_str(line.as_str())?;
             return Ok(());
         };

@@ -62,7 +62,10 @@ pub fn read_number(bytes: &[u8], at: usize) -> Result<Number, NumberFault>
         }
         value = value * 128 + (byte % 0x80) as u32;
         if byte < 0x80 {
-            return Ok(Number { value, next: place + 1 });
+            return Ok(Number {
+                value,
+                next: place + 1,
+            });
         }
         place += 1;
     }

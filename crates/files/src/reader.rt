@@ -40,7 +40,12 @@ impl<'a> Reader<'a> {
     {
         let number = read_number(bytes, 0)?;
         match Kind::from_number(number.value) {
-            Some(kind) => Ok(Reader { bytes, kind, at: number.next, last: 0 }),
+            Some(kind) => Ok(Reader {
+                bytes,
+                kind,
+                at: number.next,
+                last: 0,
+            }),
             None => Err(FileFault::UnknownKind(0)),
         }
     }
@@ -73,12 +78,23 @@ impl<'a> Reader<'a> {
         self.at = end;
         self.last = plate;
         let codes = &bytes[next..end];
-        Ok(Some(Record { plate, count, place, codes }))
+        Ok(Some(Record {
+            plate,
+            count,
+            place,
+            codes,
+        }))
     }
 }
 
 /// Passes over the codes of the record at `place`, from `start` on, and answers where they end.
-fn codes_end(kind: Kind, bytes: &[u8], start: usize, count: u32, place: usize) -> Result<usize, FileFault>
+fn codes_end(
+    kind: Kind,
+    bytes: &[u8],
+    start: usize,
+    count: u32,
+    place: usize,
+) -> Result<usize, FileFault>
     ensures { λ r. ⌜ CodesAt kind (now (bytes .entry)) start count place r ⌝ }
 {
     let mut at = start;
@@ -126,5 +142,9 @@ fn read_head(bytes: &[u8], place: usize, last: u32) -> Result<Head, FileFault>
     if count.value > MOST_LETTERS {
         return Err(FileFault::CountTooLarge(plate.next));
     }
-    Ok(Head { plate: plate.value, count: count.value, next: count.next })
+    Ok(Head {
+        plate: plate.value,
+        count: count.value,
+        next: count.next,
+    })
 }

@@ -22,7 +22,11 @@ impl<'a, L: CodedLetter> Letters<'a, L> {
     pub fn over(codes: &'a [u8]) -> Letters<'a, L>
         ensures { λ r. ⌜ (now (r .codes) ≡ now (codes .entry)) × (r .at ≡ 0) ⌝ }
     {
-        Letters { codes, at: 0, kind: PhantomData }
+        Letters {
+            codes,
+            at: 0,
+            kind: PhantomData,
+        }
     }
 
     /// Reads the next letter, or none at the end of the bytes. After a fault nothing has changed, and

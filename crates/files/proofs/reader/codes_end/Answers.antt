@@ -14,10 +14,10 @@ loop-code-holds c = ([], codes-none (c .args .kind) _ _, refl)
 pub loop-code-again : need.loop-code-again
 loop-code-again c =
     let (cs, read, count) = c .loop-code .inv in
-    let n = c .in-Continue-number .number .value in
-    ( cs ++ (n ∷ [])
-    , codes-more _ _ cs _ _ _ _ read (c .in-Continue-number .ensures tt) (c .if-not-is-code .ensures tt .0 refl)
-    , omega (arith, length-push cs n)
+    let n = c .in-Continue-number .number .value in (
+      cs ++ (n ∷ []),
+      codes-more _ _ cs _ _ _ _ read (c .in-Continue-number .ensures tt) (c .if-not-is-code .ensures tt .0 refl),
+      omega (arith, length-push cs n),
     )
 
 pub returns-in-Break-number : need.returns-in-Break-number
