@@ -4,7 +4,7 @@ use mathlib.Core.List.{List, [], _∷_, _++_, append-assoc, append-nil}
 use mathlib.Core.Path.{_≡_, refl, sym, ap, subst, _∙_}
 use native.Mathlib.Omega.{arith}
 use lib.ListN.{length, drop, length-append, length-drop}
-use Rattle.std.proofs.shelf.Lists.{length-push, joined-more}
+use Rattle.std.proofs.shelf.Lists.{length-push, joined-more, drop-all}
 use Rattle.std.specs.Joined.{joined}
 use Rattle.std.specs.declared.option.Option.the-variants.{None, Some}
 use Rattle.std.specs.declared.result.Result.the-variants.{Ok, Err}
@@ -12,11 +12,12 @@ use Rattle.letters.specs.declared.kind.Kind.{Kind}
 use Rattle.files.specs.declared.fault.FileFault.{FileFault}
 use Rattle.files.specs.declared.reader.Reader.{Reader}
 use Rattle.files.specs.declared.reader.Record.{Record}
-use Rattle.files.specs.Listing.{Entries, no-entry, one-more, entryLine, letterCount, totalLine, faultLine, RecordsListed, to-end, to-fault, kindLine, Listed, opened}
+use Rattle.files.specs.Listing.{kindLine, entryLine, letterCount, totalLine, faultLine, Listed, whole, broken}
+use Rattle.files.specs.Steps.{Entries, no-entry, one-more, RecordsListed, to-end, to-fault}
 use Rattle.files.specs.Numbers.{marked, encode, Stands}
 use Rattle.letters.specs.Kinds.{kindNumber}
-use Rattle.files.specs.Records.{Entry, Allowed, Shows, Opened, Next, RecordFault, encodeCodes, encodeEntry}
-use Rattle.files.proofs.Reading.{stands-within, reads-within}
+use Rattle.files.specs.Records.{Entry, Allowed, Shows, Opened, Next, RecordFault, Rising, lastPlate, encodeCodes, encodeEntry, encodeFile}
+use Rattle.files.proofs.Reading.{stands-within, reads-within, stands-none, stands-append}
 
 -- The reader a has read the entries since it was a₀, and the text tells them after what it had.
 pub record Progress (a₀ : Reader) (old : List ℕ) (a : Reader) (text : List ℕ) (plates letters : ℕ) : Type 0 where
@@ -128,10 +129,40 @@ module _ (a₀ : Reader) (old : List ℕ) (a : Reader) (text : List ℕ) (plates
         omega (arith, s .passed, stands .1, shows .1),
       )
 
+-- One entry more at the end.
+last-push : (last : ℕ) (es : List Entry) (e : Entry) → lastPlate last (es ++ (e ∷ [])) ≡ e .plate
+last-push last [] e = refl
+last-push last (x ∷ es) e = last-push (x .plate) es e
+
+rising-push : (k : Kind) (last : ℕ) (es : List Entry) (e : Entry) → Rising k last es → Allowed k (lastPlate last es) e → Rising k last (es ++ (e ∷ []))
+rising-push k last [] e r h = (h, tt)
+rising-push k last (x ∷ es) e (g, r) h = (g, rising-push k (x .plate) es e r h)
+
+-- Entries that were read one after the other stand as the encoding of a list that rises.
+entries-stand : (k : Kind) (bs : List ℕ) (i : ℕ) (es : List Entry) (last j : ℕ) → Entries k bs i es last j
+    → Rising k 0 es × Stands bs i (joined encodeEntry es) j × (last ≡ lastPlate 0 es)
+entries-stand k bs i es last j no-entry = (tt, stands-none bs i, refl)
+entries-stand k bs i es last j (one-more es′ last′ m e j′ before allowed here) =
+    let (rising, stands, is) = entries-stand k bs i es′ last′ m before in (
+      rising-push k 0 es′ e rising (subst (λ n. Allowed k n e) is allowed),
+      subst (λ x. Stands bs i x j) (joined-more encodeEntry [] es′ e) (stands-append bs (joined encodeEntry es′) (encodeEntry e) i m j stands here),
+      sym (last-push 0 es′ e),
+    )
+
 -- The listing of a file is its kind's line and the listing of its records.
 pub file-listed : (a : Reader) (bs first text : List ℕ) → Opened bs (Ok a) → first ≡ kindLine (a .kind)
     → (a .last ≡ 0 → a .at ≤ length (a .bytes .now) → (out : List ℕ) × RecordsListed (a .kind) (a .bytes .now) (a .at) out × (text ≡ first ++ out)) → Listed bs text
-file-listed a bs first text (reads, fresh, bytes) line records =
-    let inside : a .at ≤ length (a .bytes .now) = omega (arith, reads-within bs 0 (kindNumber (a .kind)) (a .at) reads, ap length bytes) in
+file-listed a bs first text ((number, kind), fresh, bytes) line records =
+    let inside : a .at ≤ length (a .bytes .now) = omega (arith, reads-within bs 0 (kindNumber (a .kind)) (a .at) (number, kind), ap length bytes) in
     let (out, listed, e) = records fresh inside in
-    subst (Listed bs) (sym (e ∙ ap (λ x. x ++ out) line)) (opened (a .kind) (a .at) out reads (subst (λ bs. RecordsListed (a .kind) bs (a .at) out) bytes listed))
+    subst (Listed bs) (sym (e ∙ ap (λ x. x ++ out) line)) (go out (subst (λ bs. RecordsListed (a .kind) bs (a .at) out) bytes listed))
+  where
+    go : (out : List ℕ) → RecordsListed (a .kind) bs (a .at) out → Listed bs (kindLine (a .kind) ++ out)
+    go out (to-end es last read) =
+        let (rising, stands, is) = entries-stand (a .kind) bs (a .at) es last (length bs) read in
+        let (whole-file, _) = stands-append bs (encode (kindNumber (a .kind))) (joined encodeEntry es) 0 (a .at) (length bs) kind stands in
+        whole (a .kind) es rising (whole-file ∙ ap (λ x. encodeFile (a .kind) es ++ x) (drop-all (length bs) bs (omega arith)) ∙ append-nil (encodeFile (a .kind) es))
+    go out (to-fault es last j f read before fault) =
+        let (rising, stands, is) = entries-stand (a .kind) bs (a .at) es last j read in
+        broken (a .kind) es j f rising (stands-append bs (encode (kindNumber (a .kind))) (joined encodeEntry es) 0 (a .at) j kind stands) before
+        (subst (λ n. RecordFault (a .kind) bs n j f) is fault)

@@ -1,5 +1,5 @@
 -- A word file as people read it: what is in it, or where it breaks off.
-use Prim.Native.Nat.{ℕ, _+_, _^_, _<_, _≤_}
+use Prim.Native.Nat.{ℕ, _+_, _<_}
 use mathlib.Core.List.{List, [], _∷_, _++_}
 use mathlib.Core.Path.{_≡_}
 use lib.Chars.{codes}
@@ -11,15 +11,8 @@ use Rattle.letters.specs.declared.kind.Kind.{Kind}
 use Rattle.letters.specs.Kinds.{kindNumber, kindName}
 use Rattle.files.specs.declared.fault.FileFault.{FileFault}
 use Rattle.files.specs.Faults.{faultText}
-use Rattle.files.specs.Numbers.{Stands, Reads}
-use Rattle.files.specs.Records.{Entry, encodeEntry, Allowed, Opened, RecordFault}
-
--- From place i on stand the entries of a file of the kind; the last of them has the plate `last` (0 if there is none) and
--- ends before place j.
-pub data Entries (k : Kind) (bs : List ℕ) (i : ℕ) : List Entry → ℕ → ℕ → Type 0 where
-  no-entry : Entries k bs i [] 0 i
-  one-more : (es : List Entry) (last m : ℕ) (e : Entry) (j : ℕ) → Entries k bs i es last m → Allowed k last e → Stands bs m (encodeEntry e) j
-      → Entries k bs i (es ++ (e ∷ [])) (e .plate) j
+use Rattle.files.specs.Numbers.{Stands}
+use Rattle.files.specs.Records.{Entry, encodeFile, Rising, lastPlate, Opened, RecordFault}
 
 -- The first line: the kind's number and name.
 abbrev pub kindLine : Kind → List ℕ
@@ -47,15 +40,13 @@ totalLine plates letters bytes =
 abbrev pub faultLine : FileFault → List ℕ
 faultLine f = faultText f ++ codes "\n"
 
--- The text lists the records from place i on, up to the end of the bytes or up to the first fault, and then the totals or
--- the fault.
-pub data RecordsListed (k : Kind) (bs : List ℕ) (i : ℕ) : List ℕ → Type 0 where
-  to-end : (es : List Entry) (last : ℕ) → Entries k bs i es last (length bs)
-      → RecordsListed k bs i (joined entryLine es ++ totalLine (length es) (letterCount es) (length bs))
-  to-fault : (es : List Entry) (last j : ℕ) (f : FileFault) → Entries k bs i es last j → j < length bs → RecordFault k bs last j f
-      → RecordsListed k bs i (joined entryLine es ++ faultLine f)
-
--- The text lists the file: its kind and its records, or the fault of its kind.
+-- The text lists the file in the bytes, which are
+-- the encoding of entries as a file has them: then the kind, the entries and the totals are told;
+-- or begin with such an encoding, and a fault is met in the record behind it: then the kind, the entries and the fault;
+-- or have a fault in their kind: then the fault alone.
 pub data Listed (bs : List ℕ) : List ℕ → Type 0 where
-  opened : (k : Kind) (i : ℕ) (text : List ℕ) → Reads bs 0 (kindNumber k) i → RecordsListed k bs i text → Listed bs (kindLine k ++ text)
+  whole : (k : Kind) (es : List Entry) → Rising k 0 es → bs ≡ encodeFile k es
+      → Listed bs (kindLine k ++ (joined entryLine es ++ totalLine (length es) (letterCount es) (length bs)))
+  broken : (k : Kind) (es : List Entry) (j : ℕ) (f : FileFault) → Rising k 0 es → Stands bs 0 (encodeFile k es) j → j < length bs
+      → RecordFault k bs (lastPlate 0 es) j f → Listed bs (kindLine k ++ (joined entryLine es ++ faultLine f))
   unopened : (f : FileFault) → Opened bs (Err f) → Listed bs (faultLine f)

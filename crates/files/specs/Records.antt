@@ -42,6 +42,16 @@ pub record Allowed (k : Kind) (last : ℕ) (e : Entry) : Type 0 where
   pub few : length (e .codes) ≤ 4096
   pub coded : All (IsCode k) (e .codes)
 
+-- The plate of the last of some entries; `last` if there is none.
+abbrev pub lastPlate : ℕ → List Entry → ℕ
+lastPlate last [] = last
+lastPlate last (e ∷ es) = lastPlate (e .plate) es
+
+-- Entries as they stand in a file of the kind: each is allowed after the one before.
+abbrev pub Rising : Kind → ℕ → List Entry → Type 0
+Rising k last [] = Unit {0}
+Rising k last (e ∷ es) = Allowed k last e × Rising k (e .plate) es
+
 -- The reader goes number by number, and each number must pass its check before the next is read. So far:
 
 -- From place i on stand codes of the kind, which end before place j.

@@ -1,6 +1,6 @@
--- What the reader's own functions promise each other.
+-- What the functions of the reader and of the listing promise each other.
 use Prim.Native.Nat.{ℕ, _<_}
-use mathlib.Core.List.{List}
+use mathlib.Core.List.{List, [], _∷_, _++_}
 use mathlib.Core.Logic.{_⊎_}
 use mathlib.Core.Path.{_≡_}
 use lib.ListN.{length}
@@ -13,8 +13,10 @@ use Rattle.files.specs.declared.fault.FileFault.the-variants.{InRecord, NotACo
 use Rattle.files.specs.declared.number.Number.{Number}
 use Rattle.files.specs.declared.number.NumberFault.{NumberFault}
 use Rattle.files.specs.declared.reader.Head.{Head}
-use Rattle.files.specs.Numbers.{Reads, NumberAt}
-use Rattle.files.specs.Records.{HeadRead, CodesRead, RecordFault}
+use Rattle.std.specs.Joined.{joined}
+use Rattle.files.specs.Listing.{entryLine, letterCount, totalLine, faultLine}
+use Rattle.files.specs.Numbers.{Stands, Reads, NumberAt}
+use Rattle.files.specs.Records.{Entry, encodeEntry, Allowed, HeadRead, CodesRead, RecordFault}
 
 -- The number at a place, or its fault as one of the record.
 abbrev pub NumberIn : List ℕ → ℕ → ℕ → Result Number FileFault → Type 0
@@ -37,3 +39,18 @@ abbrev pub CodesAt : Kind → List ℕ → ℕ → ℕ → ℕ → Result ℕ Fi
 CodesAt k bs i count place (Ok j) = (cs : List ℕ) × CodesRead k bs i cs j × (length cs ≡ count)
 CodesAt k bs i count place (Err fault) =
     (cs : List ℕ) × (j : ℕ) × CodesRead k bs i cs j × (length cs < count) × CodeFault k bs j place fault
+
+-- From place i on stand the entries of a file of the kind; the last of them has the plate `last` (0 if there is none) and
+-- ends before place j.
+pub data Entries (k : Kind) (bs : List ℕ) (i : ℕ) : List Entry → ℕ → ℕ → Type 0 where
+  no-entry : Entries k bs i [] 0 i
+  one-more : (es : List Entry) (last m : ℕ) (e : Entry) (j : ℕ) → Entries k bs i es last m → Allowed k last e → Stands bs m (encodeEntry e) j
+      → Entries k bs i (es ++ (e ∷ [])) (e .plate) j
+
+-- The text lists the records from place i on, up to the end of the bytes or up to the first fault, and then the totals or
+-- the fault.
+pub data RecordsListed (k : Kind) (bs : List ℕ) (i : ℕ) : List ℕ → Type 0 where
+  to-end : (es : List Entry) (last : ℕ) → Entries k bs i es last (length bs)
+      → RecordsListed k bs i (joined entryLine es ++ totalLine (length es) (letterCount es) (length bs))
+  to-fault : (es : List Entry) (last j : ℕ) (f : FileFault) → Entries k bs i es last j → j < length bs → RecordFault k bs last j f
+      → RecordsListed k bs i (joined entryLine es ++ faultLine f)
