@@ -5,3 +5,4 @@ pub mod OneReading
 pub mod OneLetter
 pub mod Lines
 pub mod Progress
+pub mod Spelled

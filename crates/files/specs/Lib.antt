@@ -1,3 +1,4 @@
+pub mod Spelling
 pub mod Numbers
 pub mod Faults
 pub mod Records

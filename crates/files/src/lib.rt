@@ -4,6 +4,7 @@ mod fault;
 mod listing;
 mod number;
 mod reader;
+mod spelling;
 mod word;
 
 pub use fault::FileFault;
