@@ -6,3 +6,5 @@ pub mod OneLetter
 pub mod Lines
 pub mod Progress
 pub mod Spelled
+pub mod Appending
+pub mod Commas

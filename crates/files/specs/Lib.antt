@@ -5,3 +5,4 @@ pub mod Records
 pub mod Steps
 pub mod Words
 pub mod Listing
+pub mod Line

@@ -1,9 +1,11 @@
 -- What the functions of the reader and of the listing promise each other.
-use Prim.Native.Nat.{ℕ, _<_}
+use Prim.Native.Nat.{ℕ, _+_, _<_, _≤_}
 use mathlib.Core.List.{List, [], _∷_, _++_}
 use mathlib.Core.Logic.{_⊎_}
 use mathlib.Core.Path.{_≡_}
-use lib.ListN.{length}
+use lib.ListN.{length, take, drop}
+use Rattle.std.specs.declared.option.Option.{Option}
+use Rattle.std.specs.declared.option.Option.the-variants.{None, Some}
 use Rattle.std.specs.declared.result.Result.{Result}
 use Rattle.std.specs.declared.result.Result.the-variants.{Ok, Err}
 use Rattle.letters.specs.declared.kind.Kind.{Kind}
@@ -54,3 +56,14 @@ pub data RecordsListed (k : Kind) (bs : List ℕ) (i : ℕ) : List ℕ → Type 
       → RecordsListed k bs i (joined entryLine es ++ totalLine (length es) (letterCount es) (length bs))
   to-fault : (es : List Entry) (last j : ℕ) (f : FileFault) → Entries k bs i es last j → j < length bs → RecordFault k bs last j f
       → RecordsListed k bs i (joined entryLine es ++ faultLine f)
+
+-- The bytes s were written at place i of what was `old`, up to place j; nothing else is changed.
+pub record Appends (old : List ℕ) (i : ℕ) (s : List ℕ) (j : ℕ) (new : List ℕ) : Type 0 where
+  pub end : j ≡ i + length s
+  pub front : take j new ≡ take i old ++ s
+  pub rest : drop j new ≡ drop j old
+
+-- A length, if it does not exceed the room; else none.
+abbrev pub Fitting : ℕ → ℕ → Option ℕ → Type 0
+Fitting len room (Some n) = (n ≡ len) × (n ≤ room)
+Fitting len room None = room < len

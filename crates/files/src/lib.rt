@@ -1,6 +1,7 @@
 //! Word files: how plates and their words stand in bytes.
 
 mod fault;
+mod line;
 mod listing;
 mod number;
 mod reader;
