@@ -57,13 +57,13 @@ writing-more base mark old full at stop i rest out two w before inside =
     let some : 0 < rest = ⊎-elim (λ l. l) (λ z. absurd (omega (arith, w .place, long, no-digits base rest z))) (cases-lt 0 rest) in
     let step = raised-step base mark rest two some in
     let split : out ≡ take m old ++ (getD old m 0 ∷ tail) =
-        w .holds ∙ ap (λ k. take k old ++ tail) i-is ∙ ap (λ y. y ++ tail) (take-more old m 0 (omega arith)) ∙ append-assoc (take m old) (getD old m 0 ∷ []) tail in
-    record
-      { written = x ∷ w .written
-      ; whole = w .whole ∙ ap (λ y. y ++ w .written) step ∙ append-assoc (raised base mark (rest / base)) (x ∷ []) (w .written)
-      ; place = omega (arith, w .place, ap length step, length-push (raised base mark (rest / base)) x)
-      ; holds = ap (λ o. set o m x) split ∙ set-at (take m old) (getD old m 0) tail x m (length-take-le m old (omega arith))
-      }
+    w .holds ∙ ap (λ k. take k old ++ tail) i-is ∙ ap (λ y. y ++ tail) (take-more old m 0 (omega arith)) ∙ append-assoc (take m old) (getD old m 0 ∷ []) tail in
+    record {
+      written = x ∷ w .written;
+      whole = w .whole ∙ ap (λ y. y ++ w .written) step ∙ append-assoc (raised base mark (rest / base)) (x ∷ []) (w .written);
+      place = omega (arith, w .place, ap length step, length-push (raised base mark (rest / base)) x);
+      holds = ap (λ o. set o m x) split ∙ set-at (take m old) (getD old m 0) tail x m (length-take-le m old (omega arith));
+    }
 
 -- With the last byte, which is written first, that makes the whole number.
 pub writing-end : (base mark end n : ℕ) (old : List ℕ) (at last i rest : ℕ) (out : List ℕ) → last < length old → at ≤ last → i ≤ at

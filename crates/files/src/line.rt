@@ -2,8 +2,9 @@
 
 ghost use mathlib.Core.Path.{_≡_};
 ghost use mathlib.Core.List.{_∷_, map};
-ghost use Prim.Native.Nat.{_+_, _≤_};
+ghost use Prim.Native.Nat.{_+_, _<_, _≤_};
 ghost use lib.ListN.{length};
+ghost use Rattle.std.specs.Orderings.{When};
 ghost use Rattle.std.specs.Written.{decimal};
 ghost use Rattle.files.specs.Line.{writeFault, sideText, commaText, rowText, lineText, Wrote};
 ghost use Rattle.files.specs.Steps.{Appends, Fitting};
@@ -114,39 +115,59 @@ fn put_row<L: CodedLetter>(out: &mut [u8], at: usize, side: Side, first: L, rest
     put_text(out, end, b"\n")
 }
 
-/// How long the line is; none where that exceeds the room.
-fn line_len<L: CodedLetter>(first: u32, second: u32, row: &[L], room: usize) -> Option<usize>
-    ensures { λ r. ⌜ ((side : Side) → Fitting (length (lineText first second side (map code (now (row .entry))))) room r) ⌝ }
+/// How long the part of the line behind the plates is; none where that exceeds the room.
+fn row_len<L: CodedLetter>(row: &[L], room: usize) -> Option<usize>
+    ensures { λ r. ⌜ ((side : Side) → Fitting (length (rowText side (map code (now (row .entry))))) room r) ⌝ }
 {
-    let plates = spelled_len(10, first as u64) + 1 + spelled_len(10, second as u64);
-    let fixed = if row.is_empty() {
-        plates + 7
-    } else {
-        plates + 4 + spelled_len(10, row.len() as u64 - 1)
-    };
+    if row.is_empty() {
+        return if 7 <= room { Some(7) } else { None };
+    }
+    let rest = &row[1..];
+    let fixed = 5 + spelled_len(10, rest.len() as u64) + spelled_len(10, row[0].code() as u64);
     if fixed > room {
         return None;
     }
-    match commas_len(row, room - fixed) {
+    match commas_len(rest, room - fixed) {
         Some(codes) => Some(fixed + codes),
         None => None,
+    }
+}
+
+/// Is there room for the line?
+fn line_fits<L: CodedLetter>(first: u32, second: u32, row: &[L], room: usize) -> bool
+    ensures { λ r. ⌜ ((side : Side) → When r (length (lineText first second side (map code (now (row .entry)))) ≤ room) (room < length (lineText first second side (map code (now (row .entry)))))) ⌝ }
+{
+    let plates = spelled_len(10, first as u64) + 1 + spelled_len(10, second as u64);
+    if plates > room {
+        return false;
+    }
+    match row_len(row, room - plates) {
+        Some(_) => true,
+        None => false,
     }
 }
 
 /// Writes the line of two plates into the first bytes of `out`, and answers how many these are: both
 /// plates, the degree or `=`, the side or `-`, and the codes of the row or `-`. An empty row says that no
 /// row tells the plates apart.
-pub fn line<L: CodedLetter>(first: u32, second: u32, side: Side, row: &[L], out: &mut [u8]) -> Result<usize, WriteFault>
+pub fn line<L: CodedLetter>(
+    first: u32,
+    second: u32,
+    side: Side,
+    row: &[L],
+    out: &mut [u8],
+) -> Result<usize, WriteFault>
     ensures { λ r. ⌜ Wrote (now (out .entry)) (lineText first second side (map code (now (row .entry)))) r (now (out .exit)) ⌝ }
 {
-    if line_len(first, second, row, out.len()).is_none() {
+    if !line_fits(first, second, row, out.len()) {
         return Err(WriteFault::NoRoom(0));
     }
-    let plate = put_decimal(out, 0, first as u64);
-    let plate = put_text(out, plate, b" ");
+    let space = put_decimal(out, 0, first as u64);
+    let plate = put_text(out, space, b" ");
     let end = put_decimal(out, plate, second as u64);
-    match row {
-        [] => Ok(put_text(out, end, b" = - -\n")),
-        [letter, rest @ ..] => Ok(put_row(out, end, side, *letter, rest)),
+    if row.is_empty() {
+        Ok(put_text(out, end, b" = - -\n"))
+    } else {
+        Ok(put_row(out, end, side, row[0], &row[1..]))
     }
 }

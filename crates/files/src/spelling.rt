@@ -23,7 +23,15 @@ pub(crate) fn spelled_len(base: u64, number: u64) -> usize
 
 /// Writes the number into the `len` bytes from `at` on: its digits in the base, those before the last
 /// added to `mark`, and the last added to `end`.
-pub(crate) fn put_spelled(out: &mut [u8], at: usize, len: usize, base: u64, mark: u8, end: u8, number: u64)
+pub(crate) fn put_spelled(
+    out: &mut [u8],
+    at: usize,
+    len: usize,
+    base: u64,
+    mark: u8,
+    end: u8,
+    number: u64,
+)
     requires base { ⌜ (2 ≤ base) × (mark + base ≤ 256) × (end + base ≤ 256) ⌝ }
     requires len { ⌜ len ≡ length (spell base mark end number) ⌝ }
     requires room { ⌜ at + len ≤ length (now out) ⌝ }

@@ -12,9 +12,9 @@ loop-letter-again g c =
     let code = g .L·CodedLetter .code in
     let more = fronts-length code (c .args .row .now) (c .loop-letter .letter-index) (c .letter-item .result) (omega arith) (c .letter-item .is) in
     let len = decimal-long (c .code .result) (omega (arith, c .code .ok)) in
-    let same = ap (λ n. length (decimal n)) (c .code .ensures) in
-    ( omega (arith, c .loop-letter .inv .0, more, len, same, c .spelled-len-more .ensures .is)
-    , omega (arith, c .loop-letter .inv .1, c .if-more-room .left)
+    let same = ap (λ n. length (decimal n)) (c .code .ensures) in (
+      omega (arith, c .loop-letter .inv .0, more, len, same, c .spelled-len-more .ensures .is),
+      omega (arith, c .loop-letter .inv .1, c .if-more-room .left),
     )
 
 pub returns-then-more-room : need.returns-then-more-room
@@ -29,7 +29,7 @@ returns-then-more-room g c =
 
 pub returns : need.returns
 returns g c =
-    let code = g .L·CodedLetter .code in
-    ( c .loop-letter .inv .0 ∙ ap length (fronts-all code (c .args .row .now) (c .loop-letter .letter-index) (omega arith))
-    , c .loop-letter .inv .1
+    let code = g .L·CodedLetter .code in (
+      c .loop-letter .inv .0 ∙ ap length (fronts-all code (c .args .row .now) (c .loop-letter .letter-index) (omega arith)),
+      c .loop-letter .inv .1,
     )

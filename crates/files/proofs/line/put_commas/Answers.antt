@@ -35,7 +35,7 @@ loop-letter-again g c =
     let row = c .args .row .now in
     let i = c .loop-letter .letter-index in
     let text = fronts-more code row i (c .letter-item .result) (omega arith) (c .letter-item .is)
-      ∙ ap (λ n. fronts code row i ++ (codes "," ++ decimal n)) (sym (c .code .ensures)) in
+    ∙ ap (λ n. fronts code row i ++ (codes "," ++ decimal n)) (sym (c .code .ensures)) in
     retold (appends-more (c .loop-letter .inv) (appends-more (c .put-text-end .ensures) (c .put-decimal-end .ensures))) (sym text)
 
 pub returns : need.returns

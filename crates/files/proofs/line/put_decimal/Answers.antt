@@ -13,11 +13,11 @@ pub put-spelled-requires : need.put-spelled-requires
 put-spelled-requires c κs =
     let n = c .args .number in
     let same : length (spell 10 0 0 n) ≡ length (spell 10 48 48 n) = length-spell 10 0 0 n ∙ sym (length-spell 10 48 48 n) in
-    record
-      { base = (omega arith, omega arith, omega arith)
-      ; len = c .spelled-len-len .ensures .is ∙ same
-      ; room = omega (arith, c .pre, c .spelled-len-len .ensures .is, same, ap length (decimal-spelled n (omega arith)))
-      }
+    record {
+      base = (omega arith, omega arith, omega arith);
+      len = c .spelled-len-len .ensures .is ∙ same;
+      room = omega (arith, c .pre, c .spelled-len-len .ensures .is, same, ap length (decimal-spelled n (omega arith)));
+    }
 
 pub returns : need.returns
 returns c =

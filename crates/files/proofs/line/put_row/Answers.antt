@@ -19,9 +19,17 @@ put-text-letter-requires g c κs =
     let code = g .L·CodedLetter .code in
     let all = row-length (c .args .side) (code (c .args .first)) (map code (c .args .rest .now)) in
     let degree = ap (λ n. length (decimal n)) (length-map (c .args .rest .now) code) in
-    omega
-    ( arith, c .pre, all, degree, ap length (c .side-text .ensures)
-    , c .put-text-degree .ensures .end, c .put-text-degree .kept .out, c .put-decimal-sign .ensures .end, c .put-decimal-sign .kept .out)
+    omega (
+      arith,
+      c .pre,
+      all,
+      degree,
+      ap length (c .side-text .ensures),
+      c .put-text-degree .ensures .end,
+      c .put-text-degree .kept .out,
+      c .put-decimal-sign .ensures .end,
+      c .put-decimal-sign .kept .out,
+    )
 
 pub put-decimal-letters-requires : need.put-decimal-letters-requires
 put-decimal-letters-requires g c κs =
@@ -29,10 +37,20 @@ put-decimal-letters-requires g c κs =
     let all = row-length (c .args .side) (code (c .args .first)) (map code (c .args .rest .now)) in
     let degree = ap (λ n. length (decimal n)) (length-map (c .args .rest .now) code) in
     let letter = ap (λ n. length (decimal n)) (c .code .ensures) in
-    omega
-    ( arith, c .pre, all, degree, letter, ap length (c .side-text .ensures)
-    , c .put-text-degree .ensures .end, c .put-text-degree .kept .out, c .put-decimal-sign .ensures .end, c .put-decimal-sign .kept .out
-    , c .put-text-letter .ensures .end, c .put-text-letter .kept .out)
+    omega (
+      arith,
+      c .pre,
+      all,
+      degree,
+      letter,
+      ap length (c .side-text .ensures),
+      c .put-text-degree .ensures .end,
+      c .put-text-degree .kept .out,
+      c .put-decimal-sign .ensures .end,
+      c .put-decimal-sign .kept .out,
+      c .put-text-letter .ensures .end,
+      c .put-text-letter .kept .out,
+    )
 
 pub put-commas-end-requires : need.put-commas-end-requires
 put-commas-end-requires g c κs =
@@ -40,10 +58,22 @@ put-commas-end-requires g c κs =
     let all = row-length (c .args .side) (code (c .args .first)) (map code (c .args .rest .now)) in
     let degree = ap (λ n. length (decimal n)) (length-map (c .args .rest .now) code) in
     let letter = ap (λ n. length (decimal n)) (c .code .ensures) in
-    omega
-    ( arith, c .pre, all, degree, letter, ap length (c .side-text .ensures)
-    , c .put-text-degree .ensures .end, c .put-text-degree .kept .out, c .put-decimal-sign .ensures .end, c .put-decimal-sign .kept .out
-    , c .put-text-letter .ensures .end, c .put-text-letter .kept .out, c .put-decimal-letters .ensures .end, c .put-decimal-letters .kept .out)
+    omega (
+      arith,
+      c .pre,
+      all,
+      degree,
+      letter,
+      ap length (c .side-text .ensures),
+      c .put-text-degree .ensures .end,
+      c .put-text-degree .kept .out,
+      c .put-decimal-sign .ensures .end,
+      c .put-decimal-sign .kept .out,
+      c .put-text-letter .ensures .end,
+      c .put-text-letter .kept .out,
+      c .put-decimal-letters .ensures .end,
+      c .put-decimal-letters .kept .out,
+    )
 
 pub put-text-requires : need.put-text-requires
 put-text-requires g c κs =
@@ -51,11 +81,24 @@ put-text-requires g c κs =
     let all = row-length (c .args .side) (code (c .args .first)) (map code (c .args .rest .now)) in
     let degree = ap (λ n. length (decimal n)) (length-map (c .args .rest .now) code) in
     let letter = ap (λ n. length (decimal n)) (c .code .ensures) in
-    omega
-    ( arith, c .pre, all, degree, letter, ap length (c .side-text .ensures)
-    , c .put-text-degree .ensures .end, c .put-text-degree .kept .out, c .put-decimal-sign .ensures .end, c .put-decimal-sign .kept .out
-    , c .put-text-letter .ensures .end, c .put-text-letter .kept .out, c .put-decimal-letters .ensures .end, c .put-decimal-letters .kept .out
-    , c .put-commas-end .ensures .end, c .put-commas-end .kept .out)
+    omega (
+      arith,
+      c .pre,
+      all,
+      degree,
+      letter,
+      ap length (c .side-text .ensures),
+      c .put-text-degree .ensures .end,
+      c .put-text-degree .kept .out,
+      c .put-decimal-sign .ensures .end,
+      c .put-decimal-sign .kept .out,
+      c .put-text-letter .ensures .end,
+      c .put-text-letter .kept .out,
+      c .put-decimal-letters .ensures .end,
+      c .put-decimal-letters .kept .out,
+      c .put-commas-end .ensures .end,
+      c .put-commas-end .kept .out,
+    )
 
 pub returns : need.returns
 returns g c =
@@ -64,5 +107,5 @@ returns g c =
     let letter = ap decimal (c .code .ensures) in
     appends-more (c .put-text-degree .ensures)
     (appends-more (retold (c .put-decimal-sign .ensures) degree)
-      (appends-more (retold (c .put-text-letter .ensures) (c .side-text .ensures))
-        (appends-more (retold (c .put-decimal-letters .ensures) letter) (appends-more (c .put-commas-end .ensures) (c .put-text .ensures)))))
+    (appends-more (retold (c .put-text-letter .ensures) (c .side-text .ensures))
+    (appends-more (retold (c .put-decimal-letters .ensures) letter) (appends-more (c .put-commas-end .ensures) (c .put-text .ensures)))))

@@ -13,9 +13,9 @@ returns c =
     let k = c .args .at + length (c .args .text .now) - c .args .at in
     let long : length (c .copy-from-slice .last .self) ≡ length (c .args .text .now) = ap length text in
     let inside : at ≤ length (c .args .out .now) = omega (arith, c .pre) in
-    record
-      { end = refl
-      ; front = take-putMid at k (c .args .out .now) (c .copy-from-slice .last .self) (at + length (c .args .text .now)) (omega arith) inside
-          ∙ ap (λ x. take at (c .args .out .now) ++ x) text
-      ; rest = drop-putMid at k (c .args .out .now) (c .copy-from-slice .last .self) (at + length (c .args .text .now)) (omega arith) inside (omega arith)
-      }
+    record {
+      end = refl;
+      front = take-putMid at k (c .args .out .now) (c .copy-from-slice .last .self) (at + length (c .args .text .now)) (omega arith) inside
+          ∙ ap (λ x. take at (c .args .out .now) ++ x) text;
+      rest = drop-putMid at k (c .args .out .now) (c .copy-from-slice .last .self) (at + length (c .args .text .now)) (omega arith) inside (omega arith);
+    }

@@ -13,10 +13,10 @@ loop-rest-again c = omega (arith, c .loop-rest .inv, length-digitsOf-step (c .ar
 pub returns : need.returns
 returns c =
     let none = no-digits (c .args .base) (c .loop-rest .rest) (c .loop-rest-test .left) in
-    record
-      { is = omega (arith, c .loop-rest .inv, length-spell (c .args .base) 0 0 (c .args .number))
-      ; bound = omega (arith, c .loop-rest .inv, few-digits (c .args .base) (c .args .number) (c .pre) (omega arith))
-      }
+    record {
+      is = omega (arith, c .loop-rest .inv, length-spell (c .args .base) 0 0 (c .args .number));
+      bound = omega (arith, c .loop-rest .inv, few-digits (c .args .base) (c .args .number) (c .pre) (omega arith));
+    }
 
 pub loop-rest-less : need.loop-rest-less
 loop-rest-less c = div-lt-self (c .loop-rest-test .taken) (c .pre)
