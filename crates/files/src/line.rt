@@ -150,7 +150,7 @@ fn line_fits<L: CodedLetter>(first: u32, second: u32, row: &[L], room: usize) ->
 /// Writes the line of two plates into the first bytes of `out`, and answers how many these are: both
 /// plates, the degree or `=`, the side or `-`, and the codes of the row or `-`. An empty row says that no
 /// row tells the plates apart.
-pub fn line<L: CodedLetter>(
+pub fn write_line<L: CodedLetter>(
     first: u32,
     second: u32,
     side: Side,

@@ -3,6 +3,11 @@
 use crate::fault::FileFault;
 use crate::fault::FileFaultDebug;
 use crate::fault::FileFaultPartialEq;
+use crate::line::Side;
+use crate::line::WriteFault;
+use crate::line::WriteFaultDebug;
+use crate::line::WriteFaultPartialEq;
+use crate::line::write_line;
 use crate::listing::list;
 use crate::number::Number;
 use crate::number::NumberDebug;
@@ -113,4 +118,19 @@ fn letters_of_code_bytes() -> Result<(), Fail> {
 fn equal_plates_are_listed_as_a_fault(rt: LibcRuntime) -> Result<(), Fail> {
     let text = list(rt.alloc(), &[1, 7, 0, 7, 0])?;
     check_eq(text.as_str(), "kind 1 modes\n7:\nfault 22 at 3\n")
+}
+
+#[test]
+fn lines_of_two_plates() -> Result<(), Fail> {
+    let (a, b) = (Mode::new(1).ok_or("a")?, Mode::new(2).ok_or("b")?);
+    let mut out = [0u8; 16];
+    check_eq(write_line(7, 8, Side::Left, &[a, a, b], &mut out), Ok(14))?;
+    check_eq(out, *b"7 8 2 L 1,1,2\n\0\0")?;
+    let none: [Mode; 0] = [];
+    check_eq(write_line(8, 200, Side::Right, &none, &mut out), Ok(12))?;
+    check_eq(out, *b"8 200 = - -\n2\n\0\0")?;
+    check_eq(
+        write_line(7, 8, Side::Left, &[a, a, b], &mut out[0..13]),
+        Err(WriteFault::NoRoom(0)),
+    )
 }

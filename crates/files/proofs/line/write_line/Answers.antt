@@ -6,7 +6,7 @@ use lib.ListN.{length}
 use Rattle.files.specs.Line.{rowText, lineText}
 use Rattle.files.proofs.Appending.{appends-more, retold, appends-first, decimal-long}
 use Rattle.files.proofs.Commas.{row-first, row-empty, line-long, tests-empty, tests-some}
-use Rattle.files.proofs.line.line.Needs as need
+use Rattle.files.proofs.line.write_line.Needs as need
 
 pub put-decimal-space-requires : need.put-decimal-space-requires
 put-decimal-space-requires g c κs =
