@@ -1,0 +1,6 @@
+pub mod Letters
+pub mod Deciding
+pub mod Collecting
+pub mod OneOutcome
+pub mod Calls
+pub mod Outcomes
