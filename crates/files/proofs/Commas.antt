@@ -15,8 +15,8 @@ use Rattle.std.proofs.shelf.Ways.{decides-eqb, not-from-decides}
 use Rattle.std.specs.Holes.{between}
 use Rattle.std.specs.Joined.{joined}
 use Rattle.std.specs.Written.{decimal}
-use Rattle.files.specs.declared.line.Side.{Side}
-use Rattle.files.specs.declared.line.Side.the-variants.{Left, Right}
+use Rattle.words.specs.declared.told.Side.{Side}
+use Rattle.words.specs.declared.told.Side.the-variants.{Left, Right}
 use Rattle.files.specs.Line.{sideText, commaText, rowText, lineText}
 use Rattle.files.specs.Spelling.{spell}
 use Rattle.files.proofs.Appending.{decimal-long}

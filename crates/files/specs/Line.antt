@@ -8,8 +8,8 @@ use Rattle.std.specs.Joined.{joined}
 use Rattle.std.specs.Written.{decimal}
 use Rattle.std.specs.declared.result.Result.{Result}
 use Rattle.std.specs.declared.result.Result.the-variants.{Ok, Err}
-use Rattle.files.specs.declared.line.Side.{Side}
-use Rattle.files.specs.declared.line.Side.the-variants.{Left, Right}
+use Rattle.words.specs.declared.told.Side.{Side}
+use Rattle.words.specs.declared.told.Side.the-variants.{Left, Right}
 use Rattle.files.specs.declared.line.WriteFault.{WriteFault}
 use Rattle.files.specs.declared.line.WriteFault.the-variants.{NoRoom}
 

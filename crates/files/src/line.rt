@@ -11,13 +11,7 @@ ghost use Rattle.files.specs.Steps.{Appends, Fitting};
 use crate::spelling::put_spelled;
 use crate::spelling::spelled_len;
 use letters::CodedLetter;
-
-/// One of two words.
-#[derive(Clone, Copy, PartialEq, Eq, Debug)]
-pub enum Side {
-    Left,
-    Right,
-}
+use words::Side;
 
 /// Why nothing was written.
 #[derive(Clone, Copy, PartialEq, Eq, Debug)]

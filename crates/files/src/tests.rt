@@ -3,7 +3,6 @@
 use crate::fault::FileFault;
 use crate::fault::FileFaultDebug;
 use crate::fault::FileFaultPartialEq;
-use crate::line::Side;
 use crate::line::WriteFault;
 use crate::line::WriteFaultDebug;
 use crate::line::WriteFaultPartialEq;
@@ -24,6 +23,7 @@ use letters::ModeDebug;
 use letters::ModeOrdered;
 use letters::ModePartialEq;
 use std::test::*;
+use words::Side;
 
 #[test]
 fn numbers_at_their_edges() -> Result<(), Fail> {

@@ -1,0 +1,12 @@
+pub mod Words
+pub mod Letters
+pub mod Forms
+pub mod Separating
+pub mod Faults
+pub mod Steps
+pub mod Degrees
+pub mod Places
+pub mod RowSteps
+pub mod Reading
+pub mod Stairs
+pub mod Rows
