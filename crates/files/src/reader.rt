@@ -61,7 +61,8 @@ impl<'a> Reader<'a> {
     pub fn place(&self) -> usize
         ensures { λ r. ⌜ r ≡ now (self .entry) .at ⌝ }
     {
-        self.at
+        let here = self.at;
+        here
     }
 
     /// Reads the next record, or none at the end. After a fault the reader is as it was.
