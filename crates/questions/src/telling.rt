@@ -17,7 +17,7 @@ pub fn separate<L: OrderedLetter>(
     row: &mut [L],
     scratch: &mut [u32],
 ) -> Result<Option<Telling>, QuestionFault>
-    ensures { Asked (Before order) (word_of left.now) (word_of right.now) row.old scratch.old result row.new scratch.new }
+    ensures { Asked (Before L.order) (word_of left.now) (word_of right.now) row.old scratch.old result row.new scratch.new }
 {
     match words::separate(left.word(), right.word(), row, scratch) {
         Ok(answer) => Ok(answer),

@@ -141,7 +141,7 @@ pub written_occurs : (p : Pair) (n at : ℕ) (row : List ℕ) (left right : Read
     → (0 < get_or left.heads.now x 0) × (0 < get_or right.heads.now x 0)
 written_occurs p n at row left right x l w f =
     let (o, q, d) = letter_both _ (n - at) _ _ x (omega arith) w.degree f in
-    (head_occurs _ left x w.left-reads o, head_occurs _ right x w.right-reads q)
+    (head_occurs _ left x w.left_reads o, head_occurs _ right x w.right_reads q)
 
 pub written_more : (p : Pair) (n at : ℕ) (row : List ℕ) (left right left' right' : Reading) (x : ℕ) → at + 1 < n
     → n ≤ length row → Written p n at row left right
@@ -158,8 +158,8 @@ written_more p n at row left right left' right' x l room w f rl el sl rr er sr =
   few = rw sl w.few;
   degree = let e : n - (at + 1) ≡ n - at - 1 = omega arith in rw (← behind_u, ← behind_v, e) b.2;
   whole = λ z m g. rw (row_is z) (w.whole (x ∷ z) (omega arith) (letter_first _ (n - at) u v x z (omega arith) w.degree f (omega arith) (rw (behind_u, behind_v) g)));
-  left_tells = λ z t. rw (row_is z) (w.left-tells (x ∷ z) (tells_behind b.0 b.1 (rw (behind_u, behind_v) t)));
-  right_tells = λ z t. rw (row_is z) (w.right-tells (x ∷ z) (tells_behind b.1 b.0 (rw (behind_u, behind_v) t)));
+  left_tells = λ z t. rw (row_is z) (w.left_tells (x ∷ z) (tells_behind b.0 b.1 (rw (behind_u, behind_v) t)));
+  right_tells = λ z t. rw (row_is z) (w.right_tells (x ∷ z) (tells_behind b.1 b.0 (rw (behind_u, behind_v) t)));
 }
   where
     u : List ℕ
@@ -172,10 +172,10 @@ written_more p n at row left right left' right' x l room w f rl el sl rr er sr =
     b = letter_both _ (n - at) u v x (omega arith) w.degree f
 
     behind_u : after ℕ_discrete x u ≡ drop left'.at p.left.now
-    behind_u = rw el (head_place _ left x w.left-reads (head_occurs _ left x w.left-reads b.0)).3
+    behind_u = rw el (head_place _ left x w.left_reads (head_occurs _ left x w.left_reads b.0)).3
 
     behind_v : after ℕ_discrete x v ≡ drop right'.at p.right.now
-    behind_v = rw er (head_place _ right x w.right-reads (head_occurs _ right x w.right-reads b.1)).3
+    behind_v = rw er (head_place _ right x w.right_reads (head_occurs _ right x w.right_reads b.1)).3
 
     row_is : (z : List ℕ) → take (at + 1) (set row at x) ++ z ≡ take at row ++ x ∷ z
     row_is z = rw (take_more_set row at x (omega arith)) (append_assoc (take at row) (x ∷ []) z)
@@ -224,13 +224,13 @@ module _ (p : Pair) (n at : ℕ) (row : List ℕ) (left right : Reading) (x : �
       → FirstTelling ◌<◌ (take n (set row at x)) p.left.now p.right.now
       × Tells (take n (set row at x)) p.left.now p.right.now
   written_left some =
-      let o = (head_place _ left x w.left-reads some).2 in
+      let o = (head_place _ left x w.left_reads some).2 in
       let t = (last_telling _ _ _ x (omega arith) f).0 o in
-      rw row_end (w.whole (x ∷ []) (omega arith) (last_first _ _ _ x f (inl t)), w.left-tells (x ∷ []) t)
+      rw row_end (w.whole (x ∷ []) (omega arith) (last_first _ _ _ x f (inl t)), w.left_tells (x ∷ []) t)
 
   pub written_right : get_or left.heads.now x 0 ≤ 0
       → FirstTelling ◌<◌ (take n (set row at x)) p.left.now p.right.now
       × Tells (take n (set row at x)) p.right.now p.left.now
   written_right none =
-      let t = (last_telling _ _ _ x (omega arith) f).1 (λ o. omega (arith, head_occurs _ left x w.left-reads o)) in
-      rw row_end (w.whole (x ∷ []) (omega arith) (last_first _ _ _ x f (inr t)), w.right-tells (x ∷ []) t)
+      let t = (last_telling _ _ _ x (omega arith) f).1 (λ o. omega (arith, head_occurs _ left x w.left_reads o)) in
+      rw row_end (w.whole (x ∷ []) (omega arith) (last_first _ _ _ x f (inr t)), w.right_tells (x ∷ []) t)

@@ -64,7 +64,7 @@ pub fn form<L: OrderedLetter>(
     out: &mut [L],
     scratch: &mut [u32],
 ) -> Result<usize, WordFault>
-    ensures { FormAnswer (Before order) k word.now out.old scratch.old result out.new scratch.new }
+    ensures { FormAnswer (Before L.order) k word.now out.old scratch.old result out.new scratch.new }
 {
     check(word.len(), out.len(), scratch.len())?;
     let Lean {
@@ -85,7 +85,7 @@ pub fn form_in_place<L: OrderedLetter>(
     k: u16,
     scratch: &mut [u32],
 ) -> Result<usize, WordFault>
-    ensures { FormAnswer (Before order) k word.old word.old scratch.old result word.new scratch.new }
+    ensures { FormAnswer (Before L.order) k word.old word.old scratch.old result word.new scratch.new }
 {
     check(word.len(), word.len(), scratch.len())?;
     let Lean {

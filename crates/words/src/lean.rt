@@ -81,7 +81,7 @@ pub(crate) struct Lean<'a> {
 pub(crate) fn thin_out<'a, L: OrderedLetter>(word: &[L], k: u16, scratch: &'a mut [u32]) -> Lean<'a>
     requires few { length word.now ≤ 4096 }
     requires spare { 7 * length word.now ≤ length scratch.old }
-    ensures { Thinned (Before order) k word.now result.places.now result.ranks.now result.before.now result.behind.now }
+    ensures { Thinned (Before L.order) k word.now result.places.now result.ranks.now result.before.now result.behind.now }
 {
     let n = word.len();
     let (places, rest) = scratch.split_at_mut(n);

@@ -58,7 +58,7 @@ fn separate_shorter<L: OrderedLetter>(
     requires shorter { length right.now ≤ length left.now }
     requires enough { 16 * (length left.now + length right.now + 2) ≤ length scratch.old }
     requires room { length right.now < length row.old }
-    ensures { Told (Before order) left.now right.now row.old row.new result }
+    ensures { Told (Before L.order) left.now right.now row.old row.new result }
 {
     let (listed, rest) = scratch.split_at_mut(left.len() + right.len());
     let (left_ranks, rest) = rest.split_at_mut(left.len());
@@ -98,7 +98,7 @@ pub fn separate<L: OrderedLetter>(
     row: &mut [L],
     scratch: &mut [u32],
 ) -> Result<Option<Telling>, WordFault>
-    ensures { SeparateAnswer (Before order) left.now right.now row.old scratch.old result row.new scratch.new }
+    ensures { SeparateAnswer (Before L.order) left.now right.now row.old scratch.old result row.new scratch.new }
 {
     check(left.len(), right.len(), row.len(), scratch.len())?;
     if right.len() <= left.len() {

@@ -9,7 +9,7 @@ loop-letter-preserved g c =
     let more = fronts_length code c.args.row.now c.loop-letter.letter-index c.letter-item.result (omega arith) c.letter-item.is in
     let len = decimal_long c.code.result (omega (arith, c.code.type-inv)) in
     let same = ap (λ n. length (decimal n)) c.code.ensures in (
-      omega (arith, c.loop-letter.invariant.0, more, len, same, c.spelled-len-more.ensures.is),
+      omega (arith, c.loop-letter.invariant.0, more, len, same, c.spelled_len-more.ensures.is),
       omega (arith, c.loop-letter.invariant.1, c.if-more-room.false),
     )
 
@@ -21,7 +21,7 @@ returns-then-more-room g c =
     let within = fronts_within code c.args.row.now (i + 1) in
     let len = decimal_long c.code.result (omega (arith, c.code.type-inv)) in
     let same = ap (λ n. length (decimal n)) c.code.ensures in
-    omega (arith, c.loop-letter.invariant.0, c.loop-letter.invariant.1, more, within, len, same, c.spelled-len-more.ensures.is, c.if-more-room.true)
+    omega (arith, c.loop-letter.invariant.0, c.loop-letter.invariant.1, more, within, len, same, c.spelled_len-more.ensures.is, c.if-more-room.true)
 
 pub returns : goal.returns
 returns g c =

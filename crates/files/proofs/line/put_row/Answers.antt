@@ -4,15 +4,15 @@ use Rattle.files.proofs.Appending.{appends_more, retold}
 use Rattle.files.proofs.Commas.{row_length}
 use Rattle.files.proofs.line.put_row.Goals as goal
 
-pub put-decimal-sign-requires : goal.put-decimal-sign-requires
-put-decimal-sign-requires g c =
+pub put_decimal-sign-requires : goal.put_decimal-sign-requires
+put_decimal-sign-requires g c =
     let code = g.L.CodedLetter.code in
     let all = row_length c.args.side (code c.args.first) (map code c.args.rest.now) in
     let degree = ap (λ n. length (decimal n)) (length-map c.args.rest.now code) in
-    omega (arith, c.requires, all, degree, c.put-text-degree.ensures.end, c.put-text-degree.auto.out)
+    omega (arith, c.requires, all, degree, c.put_text-degree.ensures.end, c.put_text-degree.auto.out)
 
-pub put-text-letter-requires : goal.put-text-letter-requires
-put-text-letter-requires g c =
+pub put_text-letter-requires : goal.put_text-letter-requires
+put_text-letter-requires g c =
     let code = g.L.CodedLetter.code in
     let all = row_length c.args.side (code c.args.first) (map code c.args.rest.now) in
     let degree = ap (λ n. length (decimal n)) (length-map c.args.rest.now code) in
@@ -21,15 +21,15 @@ put-text-letter-requires g c =
       c.requires,
       all,
       degree,
-      ap length c.side-text.ensures,
-      c.put-text-degree.ensures.end,
-      c.put-text-degree.auto.out,
-      c.put-decimal-sign.ensures.end,
-      c.put-decimal-sign.auto.out,
+      ap length c.side_text.ensures,
+      c.put_text-degree.ensures.end,
+      c.put_text-degree.auto.out,
+      c.put_decimal-sign.ensures.end,
+      c.put_decimal-sign.auto.out,
     )
 
-pub put-decimal-letters-requires : goal.put-decimal-letters-requires
-put-decimal-letters-requires g c =
+pub put_decimal-letters-requires : goal.put_decimal-letters-requires
+put_decimal-letters-requires g c =
     let code = g.L.CodedLetter.code in
     let all = row_length c.args.side (code c.args.first) (map code c.args.rest.now) in
     let degree = ap (λ n. length (decimal n)) (length-map c.args.rest.now code) in
@@ -40,17 +40,17 @@ put-decimal-letters-requires g c =
       all,
       degree,
       letter,
-      ap length c.side-text.ensures,
-      c.put-text-degree.ensures.end,
-      c.put-text-degree.auto.out,
-      c.put-decimal-sign.ensures.end,
-      c.put-decimal-sign.auto.out,
-      c.put-text-letter.ensures.end,
-      c.put-text-letter.auto.out,
+      ap length c.side_text.ensures,
+      c.put_text-degree.ensures.end,
+      c.put_text-degree.auto.out,
+      c.put_decimal-sign.ensures.end,
+      c.put_decimal-sign.auto.out,
+      c.put_text-letter.ensures.end,
+      c.put_text-letter.auto.out,
     )
 
-pub put-commas-end-requires : goal.put-commas-end-requires
-put-commas-end-requires g c =
+pub put_commas-end-requires : goal.put_commas-end-requires
+put_commas-end-requires g c =
     let code = g.L.CodedLetter.code in
     let all = row_length c.args.side (code c.args.first) (map code c.args.rest.now) in
     let degree = ap (λ n. length (decimal n)) (length-map c.args.rest.now code) in
@@ -61,19 +61,19 @@ put-commas-end-requires g c =
       all,
       degree,
       letter,
-      ap length c.side-text.ensures,
-      c.put-text-degree.ensures.end,
-      c.put-text-degree.auto.out,
-      c.put-decimal-sign.ensures.end,
-      c.put-decimal-sign.auto.out,
-      c.put-text-letter.ensures.end,
-      c.put-text-letter.auto.out,
-      c.put-decimal-letters.ensures.end,
-      c.put-decimal-letters.auto.out,
+      ap length c.side_text.ensures,
+      c.put_text-degree.ensures.end,
+      c.put_text-degree.auto.out,
+      c.put_decimal-sign.ensures.end,
+      c.put_decimal-sign.auto.out,
+      c.put_text-letter.ensures.end,
+      c.put_text-letter.auto.out,
+      c.put_decimal-letters.ensures.end,
+      c.put_decimal-letters.auto.out,
     )
 
-pub put-text-requires : goal.put-text-requires
-put-text-requires g c =
+pub put_text-requires : goal.put_text-requires
+put_text-requires g c =
     let code = g.L.CodedLetter.code in
     let all = row_length c.args.side (code c.args.first) (map code c.args.rest.now) in
     let degree = ap (λ n. length (decimal n)) (length-map c.args.rest.now code) in
@@ -84,17 +84,17 @@ put-text-requires g c =
       all,
       degree,
       letter,
-      ap length c.side-text.ensures,
-      c.put-text-degree.ensures.end,
-      c.put-text-degree.auto.out,
-      c.put-decimal-sign.ensures.end,
-      c.put-decimal-sign.auto.out,
-      c.put-text-letter.ensures.end,
-      c.put-text-letter.auto.out,
-      c.put-decimal-letters.ensures.end,
-      c.put-decimal-letters.auto.out,
-      c.put-commas-end.ensures.end,
-      c.put-commas-end.auto.out,
+      ap length c.side_text.ensures,
+      c.put_text-degree.ensures.end,
+      c.put_text-degree.auto.out,
+      c.put_decimal-sign.ensures.end,
+      c.put_decimal-sign.auto.out,
+      c.put_text-letter.ensures.end,
+      c.put_text-letter.auto.out,
+      c.put_decimal-letters.ensures.end,
+      c.put_decimal-letters.auto.out,
+      c.put_commas-end.ensures.end,
+      c.put_commas-end.auto.out,
     )
 
 pub returns : goal.returns
@@ -102,7 +102,7 @@ returns g c =
     let code = g.L.CodedLetter.code in
     let degree = ap decimal (sym (length-map c.args.rest.now code)) in
     let letter = ap decimal c.code.ensures in
-    appends_more c.put-text-degree.ensures
-    (appends_more (retold c.put-decimal-sign.ensures degree)
-    (appends_more (retold c.put-text-letter.ensures c.side-text.ensures)
-    (appends_more (retold c.put-decimal-letters.ensures letter) (appends_more c.put-commas-end.ensures c.put-text.ensures))))
+    appends_more c.put_text-degree.ensures
+    (appends_more (retold c.put_decimal-sign.ensures degree)
+    (appends_more (retold c.put_text-letter.ensures c.side_text.ensures)
+    (appends_more (retold c.put_decimal-letters.ensures letter) (appends_more c.put_commas-end.ensures c.put_text.ensures))))

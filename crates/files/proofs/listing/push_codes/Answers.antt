@@ -8,16 +8,16 @@ loop-at-init c = shown_none _ _
 
 pub loop-at-preserved : goal.loop-at-preserved
 loop-at-preserved c =
-    let pushed = c.in-ok-push-str.ensures.bytes in
-    let lent = c.as-str.ensures.value in
-    let made = c.in-ok-shown.ensures.ok in
+    let pushed = c.in_ok-push_str.ensures.bytes in
+    let lent = c.as_str.ensures.value in
+    let made = c.in_ok-shown.ensures.ok in
     shown_more _ _ _ _ _ _ _ c.loop-at.invariant (omega arith) c.in-Ok.ensures.answer (cc)
 
 pub loop-at-smaller : goal.loop-at-smaller
 loop-at-smaller c = omega (arith, reads_forward _ _ _ _ c.in-Ok.ensures.answer)
 
-pub returns-in-default : goal.returns-in-default
-returns-in-default c cs few whole = absurd (shown_number _ _ _ _ _ c.loop-at.invariant (omega arith) c.in-default.ensures.answer cs few whole)
+pub returns-in_default : goal.returns-in_default
+returns-in_default c cs few whole = absurd (shown_number _ _ _ _ _ c.loop-at.invariant (omega arith) c.in_default.ensures.answer cs few whole)
 
 pub returns : goal.returns
 returns c = shown_all _ _ _ _ c.loop-at.invariant (omega arith)

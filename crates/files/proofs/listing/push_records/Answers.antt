@@ -10,14 +10,14 @@ loop-next-init c = progress_start _ _
 given : (c : goal.In-ok-push-record) → Next c.loop-next.reader (Ok (Some c.in-Some.item)) c.next.new.self
 given c = subst (λ n. Next c.loop-next.reader (Ok n) c.next.new.self) c.in-Some.is c.in-Ok.ensures.answer
 
-pub overflow-add-plates : goal.overflow-add-plates
-overflow-add-plates c =
+pub overflow_add-plates : goal.overflow_add-plates
+overflow_add-plates c =
     let forward = progress_forward _ _ _ _ _ _ c.loop-next.invariant c.in-Some.item _ (given c) in
     let place : Fits w64 c.next.new.self.at = search rules in
     omega (arith, forward.3)
 
-pub overflow-add-letters : goal.overflow-add-letters
-overflow-add-letters c =
+pub overflow_add-letters : goal.overflow_add-letters
+overflow_add-letters c =
     let forward = progress_forward _ _ _ _ _ _ c.loop-next.invariant c.in-Some.item _ (given c) in
     let place : Fits w64 c.next.new.self.at = search rules in
     omega (arith, forward.3)
@@ -28,20 +28,20 @@ loop-next-smaller c =
     omega (arith, forward.0, forward.1, forward.2)
 
 pub loop-next-preserved : goal.loop-next-preserved
-loop-next-preserved c = progress_more _ _ _ _ _ _ c.loop-next.invariant c.in-Some.item _ _ (given c) c.in-ok-push-record.ensures
+loop-next-preserved c = progress_more _ _ _ _ _ _ c.loop-next.invariant c.in-Some.item _ _ (given c) c.in_ok-push_record.ensures
 
-pub returns-in-default : goal.returns-in-default
-returns-in-default c first inside =
-    let pushed = c.in-ok-push-str-2.ensures.bytes in
-    let lent = c.as-str-in-default.ensures.value in
-    let made = c.in-ok-line-2.ensures.ok in
+pub returns-in_default : goal.returns-in_default
+returns-in_default c first inside =
+    let pushed = c.in_ok-push_str-2.ensures.bytes in
+    let lent = c.as_str-in_default.ensures.value in
+    let made = c.in_ok-line-2.ensures.ok in
     let place = c.place-bytes.ensures in
-    let none = subst (λ n. Next c.loop-next.reader (Ok n) c.next.new.self) c.in-default.is c.in-Ok.ensures.answer in
+    let none = subst (λ n. Next c.loop-next.reader (Ok n) c.next.new.self) c.in_default.is c.in-Ok.ensures.answer in
     progress_end _ _ _ _ _ _ c.loop-next.invariant _ _ none first inside (cc)
 
 pub returns-in-Err : goal.returns-in-Err
 returns-in-Err c first inside =
-    let pushed = c.in-ok-push-str.ensures.bytes in
-    let lent = c.as-str.ensures.value in
-    let made = c.in-ok-line.ensures.ok in
+    let pushed = c.in_ok-push_str.ensures.bytes in
+    let lent = c.as_str.ensures.value in
+    let made = c.in_ok-line.ensures.ok in
     progress_fault _ _ _ _ _ _ c.loop-next.invariant _ _ _ c.in-Err.ensures.answer first (cc)

@@ -12,11 +12,11 @@ pub returns-then-byte : goal.returns-then-byte
 returns-then-byte c =
     number_read _ _ (Err (Padded _)) (scan_padded _ _ _ _ _ c.loop-group.invariant (omega arith) _ (omega arith) refl (omega arith) c.if-byte.true)
 
-pub overflow-mul-value : goal.overflow-mul-value
-overflow-mul-value c = let fits = scan_fits _ _ _ _ _ c.loop-group.invariant (omega arith) in omega arith
+pub overflow_mul-value : goal.overflow_mul-value
+overflow_mul-value c = let fits = scan_fits _ _ _ _ _ c.loop-group.invariant (omega arith) in omega arith
 
-pub overflow-add-value : goal.overflow-add-value
-overflow-add-value c = let fits = scan_fits _ _ _ _ _ c.loop-group.invariant (omega arith) in omega arith
+pub overflow_add-value : goal.overflow_add-value
+overflow_add-value c = let fits = scan_fits _ _ _ _ _ c.loop-group.invariant (omega arith) in omega arith
 
 pub returns-then-byte-lt128 : goal.returns-then-byte-lt128
 returns-then-byte-lt128 c =

@@ -11,22 +11,22 @@ loop-code-init c = ([], codes_none c.args.kind _ _, refl)
 pub loop-code-preserved : goal.loop-code-preserved
 loop-code-preserved c =
     let (cs, read, count) = c.loop-code.invariant in
-    let n = c.in-ok-number.number.value in (
+    let n = c.in_ok-number.number.value in (
       cs ++ (n ∷ []),
-      codes_more _ _ cs _ _ _ _ read c.in-ok-number.ensures (c.if-not-is-code.ensures.0 refl),
+      codes_more _ _ cs _ _ _ _ read c.in_ok-number.ensures (c.if-not-is_code.ensures.0 refl),
       omega (arith, length_push cs n),
     )
 
-pub returns-in-err-number : goal.returns-in-err-number
-returns-in-err-number c =
+pub returns-in_err-number : goal.returns-in_err-number
+returns-in_err-number c =
     let p = err_from_is_err_and c.from-residual.result c.from-residual.ensures.1 in
     let (cs, read, count) = c.loop-code.invariant in
-    rw (p.1, p.2) (cs, c.loop-code.at, read, omega (arith, count), inl c.in-err-number.ensures)
+    rw (p.1, p.2) (cs, c.loop-code.at, read, omega (arith, count), inl c.in_err-number.ensures)
 
-pub returns-then-not-is-code : goal.returns-then-not-is-code
-returns-then-not-is-code c =
+pub returns-then-not-is_code : goal.returns-then-not-is_code
+returns-then-not-is_code c =
     let (cs, read, count) = c.loop-code.invariant in
-    (cs, c.loop-code.at, read, omega (arith, count), inr (_, _, refl, c.in-ok-number.ensures, not_from_Decides _ c.is-code.ensures c.if-not-is-code.true))
+    (cs, c.loop-code.at, read, omega (arith, count), inr (_, _, refl, c.in_ok-number.ensures, not_from_Decides _ c.is_code.ensures c.if-not-is_code.true))
 
 pub returns : goal.returns
 returns c = let (cs, read, count) = c.loop-code.invariant in (cs, read, omega (arith, count))

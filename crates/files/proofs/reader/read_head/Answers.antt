@@ -3,13 +3,13 @@ use Rattle.std.proofs.lemmas.Result.{err_from_is_err_and}
 use Rattle.files.proofs.Reading.{number_fault_lem}
 use Rattle.files.proofs.reader.read_head.Goals as goal
 
-pub returns-in-err-plate : goal.returns-in-err-plate
-returns-in-err-plate c =
+pub returns-in_err-plate : goal.returns-in_err-plate
+returns-in_err-plate c =
     let p = err_from_is_err_and c.from-residual.result c.from-residual.ensures.1 in
-    rw (p.1, p.2) (λ k. number_fault_lem k _ _ _ _ _ (inl refl) c.in-err-plate.ensures)
+    rw (p.1, p.2) (λ k. number_fault_lem k _ _ _ _ _ (inl refl) c.in_err-plate.ensures)
 
-pub returns-in-err-count : goal.returns-in-err-count
-returns-in-err-count c =
-    let p = err_from_is_err_and c.from-residual-in-err-count.result c.from-residual-in-err-count.ensures.1 in
+pub returns-in_err-count : goal.returns-in_err-count
+returns-in_err-count c =
+    let p = err_from_is_err_and c.from-residual-in_err-count.result c.from-residual-in_err-count.ensures.1 in
     rw (p.1, p.2)
-    (λ k. number_fault_lem k _ _ _ _ _ (inr (inl (_, (c.in-ok-plate.ensures, c.if-plate-last.false)))) c.in-err-count.ensures)
+    (λ k. number_fault_lem k _ _ _ _ _ (inr (inl (_, (c.in_ok-plate.ensures, c.if-plate-last.false)))) c.in_err-count.ensures)

@@ -3,8 +3,8 @@ use Rattle.files.specs.Spelling.{spell}
 use Rattle.files.proofs.Spelled.{length-spell, length-raised, writing_start, writing_more, writing_end}
 use Rattle.files.proofs.spelling.put_spelled.Goals as goal
 
-pub overflow-sub-last : goal.overflow-sub-last
-overflow-sub-last c = omega (arith, c.requires.len, length-spell c.args.base c.args.mark c.args.end c.args.number)
+pub overflow_sub-last : goal.overflow_sub-last
+overflow_sub-last c = omega (arith, c.requires.len, length-spell c.args.base c.args.mark c.args.end c.args.number)
 
 pub bounds-out-last : goal.bounds-out-last
 bounds-out-last c = omega (arith, c.requires.len, c.requires.room, length-spell c.args.base c.args.mark c.args.end c.args.number)

@@ -4,8 +4,8 @@ use Rattle.std.proofs.lemmas.Int.Digits.{length-digits_of_step}
 use Rattle.files.proofs.Spelled.{few_digits, no_digits, length-spell}
 use Rattle.files.proofs.spelling.spelled_len.Goals as goal
 
-pub overflow-add-len : goal.overflow-add-len
-overflow-add-len c = omega (arith, c.loop-rest.invariant, few_digits c.args.base c.args.number c.requires (omega arith))
+pub overflow_add-len : goal.overflow_add-len
+overflow_add-len c = omega (arith, c.loop-rest.invariant, few_digits c.args.base c.args.number c.requires (omega arith))
 
 pub loop-rest-preserved : goal.loop-rest-preserved
 loop-rest-preserved c = omega (arith, c.loop-rest.invariant, length-digits_of_step c.args.base c.loop-rest.rest c.requires c.loop-rest-test.true)

@@ -17,13 +17,13 @@ loop-next-init g c = (
 pub unreachable-requires : goal.unreachable-requires
 unreachable-requires g c =
     let (w, ranged, bytes) = c.requires in
-    let read = subst (λ b. LetterRead g.L.CodedLetter.kind g.L.CodedLetter.InRange g.L.CodedLetter.code b c.loop-next.letters.at (Err c.in-default.field-0) c.next.new.self.at) c.loop-next.invariant.1 c.in-default.ensures.answer in
+    let read = subst (λ b. LetterRead g.L.CodedLetter.kind g.L.CodedLetter.InRange g.L.CodedLetter.code b c.loop-next.letters.at (Err c.in_default.field-0) c.next.new.self.at) c.loop-next.invariant.1 c.in_default.ensures.answer in
     part_no_fault _ _ _ _ g.met.L.CodedLetter.bounded g.met.L.CodedLetter.decodes g.met.L.CodedLetter.encodes _ _ _ _ w _ (c.loop-next.invariant.0.part w ranged bytes) read
 
-pub returns-in-default-next : goal.returns-in-default-next
-returns-in-default-next g c = record {
+pub returns-in_default-next : goal.returns-in_default-next
+returns-in_default-next g c = record {
   outcome = loaded_end _ _ _ _ g.met.L.CodedLetter.bounded g.met.L.CodedLetter.decodes g.met.L.CodedLetter.encodes _ _ _ _ _ _ c.clear.ensures.outcome
-      c.loop-next.invariant.0 (same_read c.loop-next.invariant.1 c.in-default-next.is c.in-Ok.ensures.answer);
+      c.loop-next.invariant.0 (same_read c.loop-next.invariant.1 c.in_default-next.is c.in-Ok.ensures.answer);
   lender = c.loop-next.invariant.2 ∙ c.clear.ensures.lender;
 }
 
@@ -35,17 +35,17 @@ loop-next-smaller g c =
 pub loop-next-preserved : goal.loop-next-preserved
 loop-next-preserved g c = (
   loading_more _ _ _ _ g.met.L.CodedLetter.bounded g.met.L.CodedLetter.decodes g.met.L.CodedLetter.encodes _ _ _ _ _ _ _ c.loop-next.invariant.0
-      (same_read c.loop-next.invariant.1 c.in-Some.is c.in-Ok.ensures.answer) c.in-ok-put.ensures.outcome,
+      (same_read c.loop-next.invariant.1 c.in-Some.is c.in-Ok.ensures.answer) c.in_ok-put.ensures.outcome,
   ap (λ x. x.now) c.in-Ok.ensures.same_bytes ∙ c.loop-next.invariant.1,
   c.put.ensures.lender ∙ c.loop-next.invariant.2,
 )
 
-pub returns-in-err-put : goal.returns-in-err-put
-returns-in-err-put g c =
+pub returns-in_err-put : goal.returns-in_err-put
+returns-in_err-put g c =
     let p = err_from_is_err_and c.from-residual.result c.from-residual.ensures.1 in
     record {
       outcome = rw (p.1, p.2)
           (loaded_refused _ _ _ _ g.met.L.CodedLetter.bounded g.met.L.CodedLetter.decodes g.met.L.CodedLetter.encodes _ _ _ _ _ _ _ _ _ c.clear.ensures.outcome
-          c.loop-next.invariant.0 (same_read c.loop-next.invariant.1 c.in-Some.is c.in-Ok.ensures.answer) c.in-err-put.ensures.outcome);
+          c.loop-next.invariant.0 (same_read c.loop-next.invariant.1 c.in-Some.is c.in-Ok.ensures.answer) c.in_err-put.ensures.outcome);
       lender = c.put.ensures.lender ∙ c.loop-next.invariant.2 ∙ c.clear.ensures.lender;
     }

@@ -5,5 +5,5 @@ use Rattle.pairs.proofs.run.text_of.Goals as goal
 
 pub returns : goal.returns
 returns c =
-    let (ls, printed, taken) = c.in-ok-print-lines.ensures in
+    let (ls, printed, taken) = c.in_ok-print_lines.ensures in
     (ls, printed, took_text vec_items _ _ ls taken ∙ ap (λ x. x ++ flat_map (λ l. l) ls) c.new-text.ensures.items)

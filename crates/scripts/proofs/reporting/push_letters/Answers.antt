@@ -4,7 +4,7 @@ use Rattle.scripts.proofs.reporting.push_letters.Goals as goal
 
 pub loop-letter-preserved : goal.loop-letter-preserved
 loop-letter-preserved g c =
-    let both = two_pieces (string_bytes c.loop-letter.text) c.args.mark.now (g.L.ScriptLetter.spelling c.letter-item.result) _ _ c.in-ok-push-str.ensures.bytes c.in-ok-push-letter.ensures in
+    let both = two_pieces (string_bytes c.loop-letter.text) c.args.mark.now (g.L.ScriptLetter.spelling c.letter-item.result) _ _ c.in_ok-push_str.ensures.bytes c.in_ok-push_letter.ensures in
     joined_next (λ x. c.args.mark.now ++ g.L.ScriptLetter.spelling x) _ _ _ c.args.letters.now c.loop-letter.letter-index c.letter-item.result c.loop-letter-test.true c.letter-item.is c.loop-letter.invariant both
 
 pub returns : goal.returns

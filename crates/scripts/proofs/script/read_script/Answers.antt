@@ -14,7 +14,7 @@ loop-line-smaller g c = next_less _ _ _ _ _ c.in-Some.ensures
 pub loop-line-preserved : goal.loop-line-preserved
 loop-line-preserved g c =
     let says = subst (λ said. LineSays g.L.ScriptLetter.Written c.in-Some.line.now (Ok said)) c.in-Call.is c.in-Ok.ensures in
-    subst (λ cs. Calls g.L.ScriptLetter.Written c.args.lines.now.read c.args.lines.now.rest.now cs c.next.new.self.read c.next.new.self.rest.now) (sym c.in-ok-push.ensures.items)
+    subst (λ cs. Calls g.L.ScriptLetter.Written c.args.lines.now.read c.args.lines.now.rest.now cs c.next.new.self.read c.next.new.self.rest.now) (sym c.in_ok-push.ensures.items)
     (more _ _ _ _ c.in-Call.call _ _ c.loop-line.invariant c.in-Some.ensures says)
 
 pub returns-in-None : goal.returns-in-None
@@ -31,4 +31,4 @@ pub returns-in-Err : goal.returns-in-Err
 returns-in-Err g c = wrong_line _ _ _ _ _ _ _ c.loop-line.invariant c.in-Some.ensures c.in-Err.ensures
 
 pub returns : goal.returns
-returns g c = no_ask _ _ _ _ _ c.loop-line.invariant c.in-default.ensures
+returns g c = no_ask _ _ _ _ _ c.loop-line.invariant c.in_default.ensures

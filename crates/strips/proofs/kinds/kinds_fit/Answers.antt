@@ -4,7 +4,7 @@ use Rattle.strips.specs.Words.{In}
 use Rattle.strips.proofs.Collecting.{Collected, collected_same, collected_new, collected_over, collected_all}
 use Rattle.strips.proofs.Deciding.{yes, no}
 use Rattle.strips.proofs.kinds.kinds_fit.Goals as goal
-use Rattle.strips.proofs.kinds.kinds_fit.Goals.{then-not-is-present+else-count-found, else-not-is-present}
+use Rattle.strips.proofs.kinds.kinds_fit.Goals.{then-not-is-present+else-count-found, else-not-is_present}
 
 -- `&found[0..count]` holds the first `count - 0` letters.
 front : {A : Type 0} (b : A) (found : List A) (count : ℕ) (r : Bool) → Decides r (In b (take (count - 0) found)) → Decides r (In b (take count found))
@@ -18,23 +18,23 @@ returns-then-count-found g c =
     let l = c.loop-letter in
     let b = c.letter-item.result in
     no (collected_over c.args.word.now (length c.args.found.now) l.letter-index l.found l.count l.invariant b c.loop-letter-test.true c.letter-item.is
-    (not_from_Decides c.is-present.result (front b l.found l.count c.is-present.result c.is-present.ensures) c.if-not-is-present.true)
+    (not_from_Decides c.is_present.result (front b l.found l.count c.is_present.result c.is_present.ensures) c.if-not-is_present.true)
     (c.if-count-found.true ∙ l.invariant.size))
 
 pub loop-letter-preserved : goal.loop-letter-preserved
 loop-letter-preserved g c =
     let l = c.loop-letter in
     let b = c.letter-item.result in
-    let present = front b l.found l.count c.is-present.result c.is-present.ensures in
-    elim c.if-not-is-present.branch [
+    let present = front b l.found l.count c.is_present.result c.is_present.ensures in
+    elim c.if-not-is_present.branch [
       | then-not-is-present+else-count-found w ↦
           is c.args.word.now (length c.args.found.now) _ _ _ _ _ w.found-is w.count-is
           (collected_new c.args.word.now (length c.args.found.now) l.letter-index l.found l.count l.invariant b c.loop-letter-test.true c.letter-item.is
-          (not_from_Decides c.is-present.result present w.if-not-is-present.true) (omega (arith, w.if-count-found.false, l.invariant.size, l.invariant.within)))
-      | else-not-is-present w ↦
+          (not_from_Decides c.is_present.result present w.if-not-is_present.true) (omega (arith, w.if-count-found.false, l.invariant.size, l.invariant.within)))
+      | else-not-is_present w ↦
           is c.args.word.now (length c.args.found.now) _ _ _ _ _ w.found-is w.count-is
           (collected_same c.args.word.now (length c.args.found.now) l.letter-index l.found l.count l.invariant b c.loop-letter-test.true c.letter-item.is
-          (present.0 w.if-not-is-present.false))
+          (present.0 w.if-not-is_present.false))
     ]
 
 pub returns : goal.returns

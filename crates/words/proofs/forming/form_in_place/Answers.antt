@@ -3,24 +3,24 @@ use Rattle.words.proofs.FormCalls.{thinned_below, thinned_few, ranks_length, bef
 use Rattle.words.proofs.LetterOrders.{before_order}
 use Rattle.words.proofs.forming.form_in_place.Goals as goal
 
-pub gather-in-place-requires : goal.gather-in-place-requires
-gather-in-place-requires g c =
-    let thin = c.thin-out-places.ensures in
+pub gather_in_place-requires : goal.gather_in_place-requires
+gather_in_place-requires g c =
+    let thin = c.thin_out-places.ensures in
     record { below = thinned_below thin; climbing = thin.lean.climbing }
 
-pub slice-bounds-sort-end : goal.slice-bounds-sort-end
-slice-bounds-sort-end g c =
-    let few = thinned_few c.thin-out-places.ensures in
-    let inside : length c.thin-out-places.result.places.now ≤ length c.gather-in-place.new.word =
-    omega (arith, c.in-ok-check.ensures.fits) in
+pub slice_bounds-sort-end : goal.slice_bounds-sort-end
+slice_bounds-sort-end g c =
+    let few = thinned_few c.thin_out-places.ensures in
+    let inside : length c.thin_out-places.result.places.now ≤ length c.gather_in_place.new.word =
+    omega (arith, c.in_ok-check.ensures.fits) in
     search rules
 
 pub sort-requires : goal.sort-requires
 sort-requires g c =
-    let thin = c.thin-out-places.ensures in
-    let part = length-take (length c.thin-out-places.result.places.now - 0) c.gather-in-place.new.word in
+    let thin = c.thin_out-places.ensures in
+    let part = length-take (length c.thin_out-places.result.places.now - 0) c.gather_in_place.new.word in
     let few = thinned_few thin in
-    let fits = c.in-ok-check.ensures.fits in
+    let fits = c.in_ok-check.ensures.fits in
     record {
       long = (omega (arith, ranks_length thin), omega (arith, before_length thin), omega (arith, behind_length thin));
     }
@@ -29,10 +29,10 @@ pub returns : goal.returns
 returns g c =
     let laws = g.met.L.OrderedLetter in
     let order = before_order g.L.OrderedLetter.order laws.same laws.itself laws.flips laws.onward in
-    let thin = c.thin-out-places.ensures in
-    let fits = c.in-ok-check.ensures.fits in (
-      c.in-ok-check.ensures,
-      formed order c.gather-in-place.new.word _ thin (omega (arith, thinned_few thin)) c.gather-in-place.ensures.letters
-          c.gather-in-place.ensures.rest
+    let thin = c.thin_out-places.ensures in
+    let fits = c.in_ok-check.ensures.fits in (
+      c.in_ok-check.ensures,
+      formed order c.gather_in_place.new.word _ thin (omega (arith, thinned_few thin)) c.gather_in_place.ensures.letters
+          c.gather_in_place.ensures.rest
           c.sort.ensures.reordered c.sort.ensures.sorted (omega arith) refl,
     )

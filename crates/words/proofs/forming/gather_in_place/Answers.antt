@@ -6,8 +6,8 @@ use Rattle.words.proofs.forming.gather_in_place.Goals as goal
 pub loop-i-init : goal.loop-i-init
 loop-i-init g c = gathered_start c.args.word.now c.args.places.now c.args.word.now
 
-pub offset-bounds-word-i : goal.offset-bounds-word-i
-offset-bounds-word-i g c =
+pub offset_bounds-word-i : goal.offset_bounds-word-i
+offset_bounds-word-i g c =
     let i = c.loop-i.i in
     let above = climbs_above i c.requires.climbing (omega arith) in
     let inside : i < length c.args.word.now = omega (arith, c.requires.below i (omega arith)) in

@@ -10,8 +10,8 @@ loop-i-init c =
 pub bounds-before-i : goal.bounds-before-i
 bounds-before-i c = omega (arith, ap length c.requires.left, lefts_length [] c.args.word.now)
 
-pub overflow-add-before : goal.overflow-add-before
-overflow-add-before c =
+pub overflow_add-before : goal.overflow_add-before
+overflow_add-before c =
     let i = c.loop-i.i - 1 in
     let rank : get_or c.args.word.now i 0 < length c.loop-i.vector = omega (arith, c.requires.below i (omega arith)) in
     let small = passing_small i (omega arith) c.loop-i.invariant (omega arith) rank c.requires.left (omega arith) in
@@ -22,8 +22,8 @@ loop-i-preserved-then-before-i c =
     let i = c.loop-i.i - 1 in
     let rank : get_or c.args.word.now i 0 < length c.loop-i.vector = omega (arith, c.requires.below i (omega arith)) in
     passing_keep i (omega arith) c.loop-i.invariant (omega arith) rank c.requires.left (c.loop-i.first - 1)
-    c.put-in-front.result c.put-in-front.new.vector (omega (arith, c.loop-i.invariant.above)) (omega arith) (omega arith) (omega arith)
-    c.put-in-front.ensures c.if-before-i.true
+    c.put_in_front.result c.put_in_front.new.vector (omega (arith, c.loop-i.invariant.above)) (omega arith) (omega arith) (omega arith)
+    c.put_in_front.ensures c.if-before-i.true
 
 pub loop-i-preserved : goal.loop-i-preserved
 loop-i-preserved c =

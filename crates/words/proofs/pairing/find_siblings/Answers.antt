@@ -4,7 +4,7 @@ use Rattle.words.proofs.pairing.find_siblings.Goals as goal
 use Rattle.words.proofs.pairing.find_siblings.Goals.{then-depth-below, else-depth-below}
 
 pub loop-j-init : goal.loop-j-init
-loop-j-init c = (stack_none _ _ c.requires.stack-room, siblings_none _ _ _ c.requires.room (c.fill.ensures.after (λ y h. h)))
+loop-j-init c = (stack_none _ _ c.requires.stack_room, siblings_none _ _ _ c.requires.room (c.fill.ensures.after (λ y h. h)))
 
 pub bounds-depths-j : goal.bounds-depths-j
 bounds-depths-j c = depth_index c.args.word.now _ c.requires.depths (c.loop-j.j - 1) (omega arith)

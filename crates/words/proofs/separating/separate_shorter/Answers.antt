@@ -11,20 +11,20 @@ tell-requires g c =
     record {
       few = omega arith;
       shorter = omega arith;
-      few-letters = omega (arith, inside);
-      left-letters = first_below count c.number-letters.new.listed (omega (arith, inside)) c.number-letters.ensures.ranks;
-      right-letters = second_below count c.number-letters.new.listed (omega (arith, inside)) c.number-letters.ensures.ranks;
+      few_letters = omega (arith, inside);
+      left_letters = first_below count c.number-letters.new.listed (omega (arith, inside)) c.number-letters.ensures.ranks;
+      right_letters = second_below count c.number-letters.new.listed (omega (arith, inside)) c.number-letters.ensures.ranks;
       row_room = omega arith;
       room = omega (arith, inside);
     }
 
-pub returns-in-default : goal.returns-in-default
-returns-in-default g c =
+pub returns-in_default : goal.returns-in_default
+returns-in_default g c =
     let inside = c.number-letters.ensures.within in
-    (same_words c.number-letters.result c.number-letters.new.listed (omega (arith, inside)) c.number-letters.ensures.ranks c.in-default.ensures, refl)
+    (same_words c.number-letters.result c.number-letters.new.listed (omega (arith, inside)) c.number-letters.ensures.ranks c.in_default.ensures, refl)
 
-pub write-letters-requires : goal.write-letters-requires
-write-letters-requires g c =
+pub write_letters-requires : goal.write_letters-requires
+write_letters-requires g c =
     let count = c.number-letters.result in
     let inside = c.number-letters.ensures.within in
     let (few, first, side) = c.in-Some.ensures in
@@ -42,4 +42,4 @@ returns g c =
     let inside = c.number-letters.ensures.within in
     let (few, first, side) = c.in-Some.ensures in
     separated count c.number-letters.new.listed (omega (arith, inside)) c.number-letters.ensures.ranks order _ c.tell.new.row _ _ (c.in-Some.telling.length - 0) (count - 0)
-    (omega arith) (omega arith) c.requires.shorter (omega (arith, few)) few first side c.write-letters.ensures.letters c.write-letters.ensures.rest
+    (omega arith) (omega arith) c.requires.shorter (omega (arith, few)) few first side c.write_letters.ensures.letters c.write_letters.ensures.rest

@@ -10,4 +10,4 @@ pub bounds-depths-i : goal.bounds-depths-i
 bounds-depths-i c = depth_index c.args.pair.left.now _ c.requires.depths (c.loop-i.i - 1) (omega arith)
 
 pub loop-i-preserved : goal.loop-i-preserved
-loop-i-preserved c = climbed_more _ _ _ _ _ _ _ _ _ _ c.loop-i-test.true (omega arith) refl refl c.loop-i.invariant c.put-left.ensures.at c.stand-for-level.ensures.stand c.stand-for-level.ensures.last c.stand-for-level.ensures.met
+loop-i-preserved c = climbed_more _ _ _ _ _ _ _ _ _ _ c.loop-i-test.true (omega arith) refl refl c.loop-i.invariant c.put_left.ensures.at c.stand_for-level.ensures.stand c.stand_for-level.ensures.last c.stand_for-level.ensures.met

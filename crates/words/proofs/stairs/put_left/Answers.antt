@@ -3,6 +3,6 @@ use Rattle.words.proofs.stairs.put_left.Goals as goal
 
 pub returns : goal.returns
 returns c = record {
-  at = c.put-front.ensures.at;
-  met = met_left _ _ _ _ _ _ c.put-front.ensures.at c.put-front.ensures.size c.put-front.ensures.reads c.requires.met c.say.ensures;
+  at = c.put_front.ensures.at;
+  met = met_left _ _ _ _ _ _ c.put_front.ensures.at c.put_front.ensures.size c.put_front.ensures.reads c.requires.met c.say.ensures;
 }

@@ -21,5 +21,5 @@ returns c =
     let small = level_small _ n c.ilog2-level.ensures.power_le (omega arith) in
     let (size, some) = level_size c.ilog2-level.result n c.ilog2-level.ensures.power_le (omega arith) _ refl in
     let low = c.ilog2-level.ensures.power_le in
-    let high = c.ilog2-level.ensures.next-power-gt in
+    let high = c.ilog2-level.ensures.next_power_gt in
     rw c.min.ensures (stretch_degree c.args.word.now c.args.table.now c.ilog2-level.result _ c.args.from c.args.to c.requires.rows small size some (omega arith) (omega arith) c.requires.inside)

@@ -7,8 +7,8 @@ loop-i-init c =
     right_start c.args.word.now c.args.out.now (length c.args.word.now) refl c.requires.room
     c.clear.ensures
 
-pub put-in-front-requires : goal.put-in-front-requires
-put-in-front-requires c =
+pub put_in_front-requires : goal.put_in_front-requires
+put_in_front-requires c =
     let i = c.loop-i.i - 1 in
     let rank = get_or c.args.word.now i 0 in
     let inside : rank < length c.loop-i.vector = omega (arith, c.requires.ranks i (omega arith)) in
@@ -16,4 +16,4 @@ put-in-front-requires c =
 
 pub loop-i-preserved : goal.loop-i-preserved
 loop-i-preserved c =
-    right_step (c.loop-i.i - 1) _ _ (omega arith) c.loop-i.invariant (omega arith) (omega arith) c.put-in-front.ensures
+    right_step (c.loop-i.i - 1) _ _ (omega arith) c.loop-i.invariant (omega arith) (omega arith) c.put_in_front.ensures

@@ -8,28 +8,28 @@ pub returns-then-place-bytes : goal.returns-then-place-bytes
 returns-then-place-bytes c =
     next_read _ (Ok None) _ (omega arith, refl)
 
-pub returns-in-err-plate : goal.returns-in-err-plate
-returns-in-err-plate c =
+pub returns-in_err-plate : goal.returns-in_err-plate
+returns-in_err-plate c =
     let p = err_from_is_err_and c.from-residual.result c.from-residual.ensures.1 in
-    rw (p.1, p.2) (next_read _ (Err _) _ (omega arith, c.in-err-plate.ensures _, refl))
+    rw (p.1, p.2) (next_read _ (Err _) _ (omega arith, c.in_err-plate.ensures _, refl))
 
-pub returns-in-err-end : goal.returns-in-err-end
-returns-in-err-end c =
-    let p = err_from_is_err_and c.from-residual-in-err-end.result c.from-residual-in-err-end.ensures.1 in
-    let (cs, j, read, due, fault) = c.in-err-end.ensures in
-    rw (p.1, p.2) (next_read _ (Err _) _ (omega arith, code_fault _ _ _ _ j _ (_, _, _, cs, c.in-ok-plate.ensures, read, due) fault, refl))
+pub returns-in_err-end : goal.returns-in_err-end
+returns-in_err-end c =
+    let p = err_from_is_err_and c.from-residual-in_err-end.result c.from-residual-in_err-end.ensures.1 in
+    let (cs, j, read, due, fault) = c.in_err-end.ensures in
+    rw (p.1, p.2) (next_read _ (Err _) _ (omega arith, code_fault _ _ _ _ j _ (_, _, _, cs, c.in_ok-plate.ensures, read, due) fault, refl))
 
-pub slice-bounds-codes-end : goal.slice-bounds-codes-end
-slice-bounds-codes-end c =
-    let (m, plate, count, few) = c.in-ok-plate.ensures in
-    let (cs, read, all) = c.in-ok-end.ensures in
+pub slice_bounds-codes_end : goal.slice_bounds-codes_end
+slice_bounds-codes_end c =
+    let (m, plate, count, few) = c.in_ok-plate.ensures in
+    let (cs, read, all) = c.in_ok-end.ensures in
     let next-within = reads_within _ _ _ _ count in
     let end-within = stands_within _ _ _ _ read.0 next-within in
-    let forward : c.in-ok-plate.field-0.next ≤ c.in-ok-end.end = omega (arith, read.0.1) in
+    let forward : c.in_ok-plate.field-0.next ≤ c.in_ok-end.end = omega (arith, read.0.1) in
     search rules
 
 pub returns : goal.returns
 returns c =
-    let (cs, read, count) = c.in-ok-end.ensures in
-    let (allowed, stands) = entry_stands _ _ cs _ _ _ _ _ _ c.in-ok-plate.ensures read count in
+    let (cs, read, count) = c.in_ok-end.ensures in
+    let (allowed, stands) = entry_stands _ _ cs _ _ _ _ _ _ c.in_ok-plate.ensures read count in
     next_read _ (Ok (Some _)) _ (record { plate = _; codes = cs }, allowed, stands, (refl, sym count, refl, stands_part _ _ _ _ read.0), refl)

@@ -5,18 +5,18 @@ use Rattle.files.specs.Numbers.{Reads}
 use Rattle.files.proofs.OneReading.{open_read, kind_from}
 use Rattle.files.proofs.reader.Reader.open.Goals as goal
 
-pub returns-in-err-number : goal.returns-in-err-number
-returns-in-err-number c =
+pub returns-in_err-number : goal.returns-in_err-number
+returns-in_err-number c =
     let p = err_from_is_err_and c.from-residual.result c.from-residual.ensures.1 in
-    let fault = c.in-err-number.ensures.answer in
+    let fault = c.in_err-number.ensures.answer in
     rw (p.1, p.2) (open_read _ (Err (Number _)) fault)
 
 pub returns-in-Some : goal.returns-in-Some
 returns-in-Some c =
-    let kind = kind_from c.in-ok-number.number.value c.in-Some.kind c.in-Some.ensures in
-    let here = c.in-ok-number.ensures.answer in
-    open_read _ (Ok _) (subst (λ n. Reads c.args.bytes.now 0 n c.in-ok-number.number.next) kind here, refl, refl)
+    let kind = kind_from c.in_ok-number.number.value c.in-Some.kind c.in-Some.ensures in
+    let here = c.in_ok-number.ensures.answer in
+    open_read _ (Ok _) (subst (λ n. Reads c.args.bytes.now 0 n c.in_ok-number.number.next) kind here, refl, refl)
 
 pub returns-in-None : goal.returns-in-None
 returns-in-None c =
-    open_read _ (Err (UnknownKind _)) (refl, _, _, c.in-ok-number.ensures.answer, sym c.in-None.ensures)
+    open_read _ (Err (UnknownKind _)) (refl, _, _, c.in_ok-number.ensures.answer, sym c.in-None.ensures)

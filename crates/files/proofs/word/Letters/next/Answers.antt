@@ -12,12 +12,12 @@ returns-then-self g c =
       same_bytes = refl;
     }
 
-pub returns-in-err-number : goal.returns-in-err-number
-returns-in-err-number g c =
+pub returns-in_err-number : goal.returns-in_err-number
+returns-in_err-number g c =
     let l = g.L.CodedLetter in
     let laws = g.met.L.CodedLetter in
     let p = err_from_is_err_and c.from-residual.result c.from-residual.ensures.1 in
-    let fault = c.in-err-number.ensures.answer in
+    let fault = c.in_err-number.ensures.answer in
     rw (p.1, p.2)
     (record {
       answer = number_bad l.kind l.InRange l.code l.letter laws.decodes laws.encodes _ _ _ (omega arith) fault;
@@ -28,7 +28,7 @@ pub returns-in-Some : goal.returns-in-Some
 returns-in-Some g c =
     let l = g.L.CodedLetter in
     let laws = g.met.L.CodedLetter in
-    let reads = c.in-ok-number.ensures.answer in
+    let reads = c.in_ok-number.ensures.answer in
     record {
       answer = letter_here l.kind l.InRange l.code l.letter laws.decodes laws.encodes _ _ _ _ _ reads c.in-Some.ensures;
       same_bytes = refl;
@@ -38,7 +38,7 @@ pub returns-in-None : goal.returns-in-None
 returns-in-None g c =
     let l = g.L.CodedLetter in
     let laws = g.met.L.CodedLetter in
-    let reads = c.in-ok-number.ensures.answer in
+    let reads = c.in_ok-number.ensures.answer in
     record {
       answer = no_letter l.kind l.InRange l.code l.letter laws.decodes laws.encodes _ _ _ _ reads c.in-None.ensures;
       same_bytes = refl;

@@ -9,8 +9,8 @@ invariant-of-self c =
     let whole : c.args.self.now.read + length c.args.self.now.rest.now < 18446744073709551616 = search rules in
     (omega (arith, whole, going_fits _ _ _ _ _ c.loop-rest.invariant.0 some c.cut.ensures.rest), tt)
 
-pub returns-then-not-is-passed : goal.returns-then-not-is-passed
-returns-then-not-is-passed c =
+pub returns-then-not-is_passed : goal.returns-then-not-is_passed
+returns-then-not-is_passed c =
     let some : 0 < length c.loop-rest.rest.now = search rules in
     let stays : Passed c.cut.result.0.now → ⊥ = search rules in
     going_found _ _ _ _ _ _ c.loop-rest.invariant.0 some c.cut.ensures.front c.cut.ensures.rest stays
