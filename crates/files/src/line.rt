@@ -55,7 +55,7 @@ fn put_text(out: &mut [u8], at: usize, text: &[u8]) -> usize
 
 /// How many bytes the codes of the row have with a comma before each; none where that exceeds the room.
 fn commas_len<L: CodedLetter>(row: &[L], room: usize) -> Option<usize>
-    ensures { Fitting (length (comma_text (map code row.now))) room result }
+    ensures { Fitting (length (comma_text (map L.code row.now))) room result }
 {
     let mut len = 0;
     for letter in row {
@@ -70,8 +70,8 @@ fn commas_len<L: CodedLetter>(row: &[L], room: usize) -> Option<usize>
 
 /// Writes the codes of the row, a comma before each.
 fn put_commas<L: CodedLetter>(out: &mut [u8], at: usize, row: &[L]) -> usize
-    requires { at + length (comma_text (map code row.now)) ≤ length out.old }
-    ensures { Appends out.old at (comma_text (map code row.now)) result out.new }
+    requires { at + length (comma_text (map L.code row.now)) ≤ length out.old }
+    ensures { Appends out.old at (comma_text (map L.code row.now)) result out.new }
 {
     let mut end = at;
     for letter in row {
@@ -93,8 +93,8 @@ fn side_text(side: Side) -> &'static [u8]
 
 /// Writes what follows the plates where a row, with this first letter, tells them apart.
 fn put_row<L: CodedLetter>(out: &mut [u8], at: usize, side: Side, first: L, rest: &[L]) -> usize
-    requires { at + length (row_text side (code first ∷ map code rest.now)) ≤ length out.old }
-    ensures { Appends out.old at (row_text side (code first ∷ map code rest.now)) result out.new }
+    requires { at + length (row_text side (L.code first ∷ map L.code rest.now)) ≤ length out.old }
+    ensures { Appends out.old at (row_text side (L.code first ∷ map L.code rest.now)) result out.new }
 {
     let degree = put_text(out, at, b" ");
     let sign = put_decimal(out, degree, rest.len() as u64);
@@ -106,7 +106,7 @@ fn put_row<L: CodedLetter>(out: &mut [u8], at: usize, side: Side, first: L, rest
 
 /// How long the part of the line behind the plates is; none where that exceeds the room.
 fn row_len<L: CodedLetter>(row: &[L], room: usize) -> Option<usize>
-    ensures { (side : Side) → Fitting (length (row_text side (map code row.now))) room result }
+    ensures { (side : Side) → Fitting (length (row_text side (map L.code row.now))) room result }
 {
     if row.is_empty() {
         return if 7 <= room { Some(7) } else { None };
@@ -124,7 +124,7 @@ fn row_len<L: CodedLetter>(row: &[L], room: usize) -> Option<usize>
 
 /// Is there room for the line?
 fn line_fits<L: CodedLetter>(first: u32, second: u32, row: &[L], room: usize) -> bool
-    ensures { (side : Side) → MatchBool result (length (line_text first second side (map code row.now)) ≤ room) (room < length (line_text first second side (map code row.now))) }
+    ensures { (side : Side) → MatchBool result (length (line_text first second side (map L.code row.now)) ≤ room) (room < length (line_text first second side (map L.code row.now))) }
 {
     let plates = spelled_len(10, first as u64) + 1 + spelled_len(10, second as u64);
     if plates > room {
@@ -146,7 +146,7 @@ pub fn write_line<L: CodedLetter>(
     row: &[L],
     out: &mut [u8],
 ) -> Result<usize, WriteFault>
-    ensures { Wrote out.old (line_text first second side (map code row.now)) result out.new }
+    ensures { Wrote out.old (line_text first second side (map L.code row.now)) result out.new }
 {
     if !line_fits(first, second, row, out.len()) {
         return Err(WriteFault::NoRoom(0));

@@ -32,7 +32,7 @@ impl<'a, L: CodedLetter> Letters<'a, L> {
     /// Reads the next letter, or none at the end of the bytes. After a fault nothing has changed, and
     /// its place counts from the first of the code bytes.
     pub fn next(&mut self) -> Result<Option<L>, FileFault>
-        ensures answer { LetterRead kind InRange code self.old.codes.now self.old.at result self.new.at }
+        ensures answer { LetterRead L.kind L.InRange L.code self.old.codes.now self.old.at result self.new.at }
         ensures same_bytes { self.new.codes ≡ self.old.codes }
     {
         if self.at >= self.codes.len() {

@@ -38,8 +38,8 @@ pub(crate) fn advance<L: CodedLetter, S: Sink>(
     sink: &mut S,
 ) -> io::Result<Option<u32>>
     requires room { Room row.old scratch.old line.old }
-    requires standing { Standing kind InRange reader.old earlier.now later.old }
-    ensures answer { Advanced (Before L.OrderedLetter.order) kind InRange code took reader.old (record { number = plate; word = word_of earlier.now }) later.old sink.old result reader.new later.new sink.new }
+    requires standing { Standing L.kind L.InRange reader.old earlier.now later.old }
+    ensures answer { Advanced (Before L.OrderedLetter.order) L.kind L.InRange L.code took reader.old (record { number = plate; word = word_of earlier.now }) later.old sink.old result reader.new later.new sink.new }
     ensures lender { later.new.letters.ghost_name ≡ later.old.letters.ghost_name }
 {
     let stepped = match step(reader, plate, earlier, later, row, scratch, line) {

@@ -21,7 +21,7 @@ pub(crate) fn compare<L: CodedLetter>(
     scratch: &mut [u32],
     line: &mut [u8],
 ) -> Result<usize, RunFault>
-    ensures { Compared (Before L.OrderedLetter.order) code (record { number = first; word = word_of earlier.now }) (record { number = second; word = word_of later.now }) row.old scratch.old line.old result row.new scratch.new line.new }
+    ensures { Compared (Before L.OrderedLetter.order) L.code (record { number = first; word = word_of earlier.now }) (record { number = second; word = word_of later.now }) row.old scratch.old line.old result row.new scratch.new line.new }
 {
     let answer = separate(earlier, later, row, scratch)?;
     let Telling { length, side } = match answer {

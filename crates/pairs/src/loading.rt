@@ -11,8 +11,8 @@ use strips::{Strip, StripFault};
 
 /// Puts the letters of these code bytes on the strip, in place of the word that it has.
 pub(crate) fn load<L: CodedLetter>(strip: &mut Strip<'_, L>, codes: &[u8]) -> Result<(), StripFault>
-    requires { (w : List L) × All InRange w × (codes.now ≡ encode_codes (map code w)) }
-    ensures outcome { (w : List L) → All InRange w → codes.now ≡ encode_codes (map code w) → Loaded strip.old w result strip.new }
+    requires { (w : List L) × All L.InRange w × (codes.now ≡ encode_codes (map L.code w)) }
+    ensures outcome { (w : List L) → All L.InRange w → codes.now ≡ encode_codes (map L.code w) → Loaded strip.old w result strip.new }
     ensures lender { strip.new.letters.ghost_name ≡ strip.old.letters.ghost_name }
 {
     strip.clear();

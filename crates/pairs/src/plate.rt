@@ -15,7 +15,7 @@ pub fn read_plate<L: CodedLetter>(
     reader: &mut Reader<'_>,
     strip: &mut Strip<'_, L>,
 ) -> Result<Option<u32>, RunFault>
-    ensures answer { PlateAnswer kind InRange code reader.old strip.old result reader.new strip.new }
+    ensures answer { PlateAnswer L.kind L.InRange L.code reader.old strip.old result reader.new strip.new }
     ensures lender { strip.new.letters.ghost_name ≡ strip.old.letters.ghost_name }
 {
     if reader.kind() != L::kind() {

@@ -27,11 +27,11 @@ fn print_plates<L: CodedLetter, S: Sink>(
     line: &mut [u8],
     sink: &mut S,
 ) -> io::Result<()>
-    requires fresh { Fresh kind reader.old }
+    requires fresh { Fresh L.kind reader.old }
     requires left_size { capacity_of left.old ≡ 400 }
     requires right_size { capacity_of right.old ≡ 400 }
     requires room { Room row.old scratch.old line.old }
-    ensures { PlatesAnswer (Before L.OrderedLetter.order) kind InRange code took reader.old.bytes.now sink.old result sink.new }
+    ensures { PlatesAnswer (Before L.OrderedLetter.order) L.kind L.InRange L.code took reader.old.bytes.now sink.old result sink.new }
 {
     let first = match read_plate(reader, left) {
         Ok(first) => first,
@@ -71,9 +71,9 @@ fn print_kind<L: CodedLetter, S: Sink>(
     letters: &mut [L],
     sink: &mut S,
 ) -> io::Result<()>
-    requires fresh { Fresh kind reader.old }
+    requires fresh { Fresh L.kind reader.old }
     requires memory { length letters.old ≡ 1201 }
-    ensures { PlatesAnswer (Before L.OrderedLetter.order) kind InRange code took reader.old.bytes.now sink.old result sink.new }
+    ensures { PlatesAnswer (Before L.OrderedLetter.order) L.kind L.InRange L.code took reader.old.bytes.now sink.old result sink.new }
 {
     let (left, rest) = letters.split_at_mut(STRIP);
     let (right, row) = rest.split_at_mut(STRIP);

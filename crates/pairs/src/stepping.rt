@@ -30,7 +30,7 @@ pub fn step<L: CodedLetter>(
     scratch: &mut [u32],
     line: &mut [u8],
 ) -> Result<Option<NextLine>, RunFault>
-    ensures answer { StepAnswer (Before L.OrderedLetter.order) kind InRange code reader.old (record { number = plate; word = word_of earlier.now }) later.old row.old scratch.old line.old result reader.new later.new row.new scratch.new line.new }
+    ensures answer { StepAnswer (Before L.OrderedLetter.order) L.kind L.InRange L.code reader.old (record { number = plate; word = word_of earlier.now }) later.old row.old scratch.old line.old result reader.new later.new row.new scratch.new line.new }
     ensures lender { later.new.letters.ghost_name ≡ later.old.letters.ghost_name }
 {
     let read = read_plate(reader, later)?;

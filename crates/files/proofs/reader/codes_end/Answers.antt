@@ -19,7 +19,7 @@ loop-code-preserved c =
 
 pub returns-in_err-number : goal.returns-in_err-number
 returns-in_err-number c =
-    let p = err_from_is_err_and c.from-residual.result c.from-residual.ensures.1 in
+    let p = err_from_is_err_and c.from_residual.result c.from_residual.ensures.1 in
     let (cs, read, count) = c.loop-code.invariant in
     rw (p.1, p.2) (cs, c.loop-code.at, read, omega (arith, count), inl c.in_err-number.ensures)
 

@@ -4,4 +4,4 @@ use Rattle.files.proofs.reader.codes_end.Given as goal
 
 -- So many codes were read as the loop took turns.
 abbrev pub invariant-loop-code : goal.invariant-loop-code
-invariant-loop-code l = (cs : List ℕ) × CodesRead l.kind l.bytes l.start cs l.at × (length cs ≡ l.-code)
+invariant-loop-code l = (cs : List ℕ) × CodesRead l.kind l.bytes l.start cs l.at × (length cs ≡ l._code)

@@ -6,7 +6,7 @@ use Rattle.pairs.proofs.advancing.advance.Goals as goal
 
 pub returns-in_err-print_fault : goal.returns-in_err-print_fault
 returns-in_err-print_fault g c =
-    let p = err_from_is_err_and c.from-residual.result c.from-residual.ensures.1 in
+    let p = err_from_is_err_and c.from_residual.result c.from_residual.ensures.1 in
     record {
       answer = rw p.1
           (unprinted_fault _ _ _ _ (code_small _ _ _ _ g.met.L.CodedLetter.bounded g.met.L.CodedLetter.decodes g.met.L.CodedLetter.encodes) g.S.Sink.took _ _ _ _ _ _ c.args.row.now
@@ -33,7 +33,7 @@ returns-in_default g c = record {
 
 pub returns-in_err-take : goal.returns-in_err-take
 returns-in_err-take g c =
-    let p = err_from_is_err_and c.from-residual-in_err-take.result c.from-residual-in_err-take.ensures.1 in
+    let p = err_from_is_err_and c.from_residual-in_err-take.result c.from_residual-in_err-take.ensures.1 in
     let all : c.in-Some.next.length - 0 ≡ c.in-Some.next.length = omega arith in
     let taken = subst (λ n. g.S.Sink.took c.args.sink.now (take n c.step.new.line) false c.take.new.self) all c.in_err-take.ensures in
     record {

@@ -42,7 +42,7 @@ loop-next-preserved g c = (
 
 pub returns-in_err-put : goal.returns-in_err-put
 returns-in_err-put g c =
-    let p = err_from_is_err_and c.from-residual.result c.from-residual.ensures.1 in
+    let p = err_from_is_err_and c.from_residual.result c.from_residual.ensures.1 in
     record {
       outcome = rw (p.1, p.2)
           (loaded_refused _ _ _ _ g.met.L.CodedLetter.bounded g.met.L.CodedLetter.decodes g.met.L.CodedLetter.encodes _ _ _ _ _ _ _ _ _ c.clear.ensures.outcome

@@ -22,7 +22,7 @@ advance-requires g c = record { room = c.loop-second.invariant.1; standing = c.l
 
 pub returns-in_err-second : goal.returns-in_err-second
 returns-in_err-second g c =
-    let p = err_from_is_err_and c.from-residual.result c.from-residual.ensures.1 in
+    let p = err_from_is_err_and c.from_residual.result c.from_residual.ensures.1 in
     rw p.1
     (subst (λ bs. PlatesAnswer (Before g.L.OrderedLetter.order) g.L.CodedLetter.kind g.L.CodedLetter.InRange g.L.CodedLetter.code g.S.Sink.took {E = Unit {0}} bs c.args.sink.now (Err tt) c.advance.new.sink) (first_bytes (Before g.L.OrderedLetter.order) g.L.CodedLetter.kind g.L.CodedLetter.InRange g.L.CodedLetter.code g.S.Sink.took _ _ _ _ _ _ c.in-Some.is c.in-Ok.ensures.answer)
     (running_refused (Before g.L.OrderedLetter.order) g.L.CodedLetter.kind g.L.CodedLetter.InRange g.L.CodedLetter.code g.S.Sink.took _ _ _ _ _ _ _ c.advance.new.later _ _ tt c.loop-second.invariant.0 c.in_err-second.ensures.answer))
@@ -44,7 +44,7 @@ advance-requires-in-loop-second g c =
 pub returns-in_err-third : goal.returns-in_err-third
 returns-in_err-third g c =
     let r = running_next (Before g.L.OrderedLetter.order) g.L.CodedLetter.kind g.L.CodedLetter.InRange g.L.CodedLetter.code g.S.Sink.took _ _ _ _ _ _ _ _ _ _ _ _ c.loop-second.invariant.0 c.in-Some-second.is c.in_ok-second.ensures.answer in
-    let p = err_from_is_err_and c.from-residual-in_err-third.result c.from-residual-in_err-third.ensures.1 in
+    let p = err_from_is_err_and c.from_residual-in_err-third.result c.from_residual-in_err-third.ensures.1 in
     rw p.1
     (subst (λ bs. PlatesAnswer (Before g.L.OrderedLetter.order) g.L.CodedLetter.kind g.L.CodedLetter.InRange g.L.CodedLetter.code g.S.Sink.took {E = Unit {0}} bs c.args.sink.now (Err tt) c.advance-in-loop-second.new.sink) (first_bytes (Before g.L.OrderedLetter.order) g.L.CodedLetter.kind g.L.CodedLetter.InRange g.L.CodedLetter.code g.S.Sink.took _ _ _ _ _ _ c.in-Some.is c.in-Ok.ensures.answer)
     (running_refused (Before g.L.OrderedLetter.order) g.L.CodedLetter.kind g.L.CodedLetter.InRange g.L.CodedLetter.code g.S.Sink.took _ _ _ _ _ _ _ c.advance-in-loop-second.new.later _ _ tt r c.in_err-third.ensures.answer))

@@ -4,7 +4,7 @@ use Rattle.strips.specs.Words.{In}
 use Rattle.strips.proofs.Collecting.{Collected, collected_same, collected_new, collected_over, collected_all}
 use Rattle.strips.proofs.Deciding.{yes, no}
 use Rattle.strips.proofs.kinds.kinds_fit.Goals as goal
-use Rattle.strips.proofs.kinds.kinds_fit.Goals.{then-not-is-present+else-count-found, else-not-is_present}
+use Rattle.strips.proofs.kinds.kinds_fit.Goals.{then-not-is_present+else-count-found, else-not-is_present}
 
 -- `&found[0..count]` holds the first `count - 0` letters.
 front : {A : Type 0} (b : A) (found : List A) (count : ℕ) (r : Bool) → Decides r (In b (take (count - 0) found)) → Decides r (In b (take count found))
@@ -27,7 +27,7 @@ loop-letter-preserved g c =
     let b = c.letter-item.result in
     let present = front b l.found l.count c.is_present.result c.is_present.ensures in
     elim c.if-not-is_present.branch [
-      | then-not-is-present+else-count-found w ↦
+      | then-not-is_present+else-count-found w ↦
           is c.args.word.now (length c.args.found.now) _ _ _ _ _ w.found-is w.count-is
           (collected_new c.args.word.now (length c.args.found.now) l.letter-index l.found l.count l.invariant b c.loop-letter-test.true c.letter-item.is
           (not_from_Decides c.is_present.result present w.if-not-is_present.true) (omega (arith, w.if-count-found.false, l.invariant.size, l.invariant.within)))

@@ -10,12 +10,12 @@ returns-then-place-bytes c =
 
 pub returns-in_err-plate : goal.returns-in_err-plate
 returns-in_err-plate c =
-    let p = err_from_is_err_and c.from-residual.result c.from-residual.ensures.1 in
+    let p = err_from_is_err_and c.from_residual.result c.from_residual.ensures.1 in
     rw (p.1, p.2) (next_read _ (Err _) _ (omega arith, c.in_err-plate.ensures _, refl))
 
 pub returns-in_err-end : goal.returns-in_err-end
 returns-in_err-end c =
-    let p = err_from_is_err_and c.from-residual-in_err-end.result c.from-residual-in_err-end.ensures.1 in
+    let p = err_from_is_err_and c.from_residual-in_err-end.result c.from_residual-in_err-end.ensures.1 in
     let (cs, j, read, due, fault) = c.in_err-end.ensures in
     rw (p.1, p.2) (next_read _ (Err _) _ (omega arith, code_fault _ _ _ _ j _ (_, _, _, cs, c.in_ok-plate.ensures, read, due) fault, refl))
 

@@ -7,7 +7,7 @@ use Rattle.files.proofs.reader.Reader.open.Goals as goal
 
 pub returns-in_err-number : goal.returns-in_err-number
 returns-in_err-number c =
-    let p = err_from_is_err_and c.from-residual.result c.from-residual.ensures.1 in
+    let p = err_from_is_err_and c.from_residual.result c.from_residual.ensures.1 in
     let fault = c.in_err-number.ensures.answer in
     rw (p.1, p.2) (open_read _ (Err (Number _)) fault)
 

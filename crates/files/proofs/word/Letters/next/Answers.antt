@@ -16,7 +16,7 @@ pub returns-in_err-number : goal.returns-in_err-number
 returns-in_err-number g c =
     let l = g.L.CodedLetter in
     let laws = g.met.L.CodedLetter in
-    let p = err_from_is_err_and c.from-residual.result c.from-residual.ensures.1 in
+    let p = err_from_is_err_and c.from_residual.result c.from_residual.ensures.1 in
     let fault = c.in_err-number.ensures.answer in
     rw (p.1, p.2)
     (record {

@@ -3,8 +3,8 @@ use Rattle.scripts.specs.Lines.{Passed}
 use Rattle.scripts.proofs.Lining.{going_more, going_fits, going_less, going_found, going_ended}
 use Rattle.scripts.proofs.script.Lines.next.Goals as goal
 
-pub invariant-of-self : goal.invariant-of-self
-invariant-of-self c =
+pub invariant_of-self : goal.invariant_of-self
+invariant_of-self c =
     let some : 0 < length c.loop-rest.rest.now = search rules in
     let whole : c.args.self.now.read + length c.args.self.now.rest.now < 18446744073709551616 = search rules in
     (omega (arith, whole, going_fits _ _ _ _ _ c.loop-rest.invariant.0 some c.cut.ensures.rest), tt)

@@ -3,8 +3,8 @@ use Rattle.strips.proofs.Calls.{few_none}
 use Rattle.strips.proofs.OneOutcome.{rule_is_one}
 use Rattle.strips.proofs.strip.Strip.open.Goals as goal
 
-pub invariant-of-result : goal.invariant-of-result
-invariant-of-result g c = (omega arith, (few_none, tt))
+pub invariant_of-result : goal.invariant_of-result
+invariant_of-result g c = record { fits = omega arith; few = few_none }
 
 pub returns : goal.returns
 returns g c = record { word = refl; memory = refl; lender = refl; law = rule_is_one g.row.L.Denot }

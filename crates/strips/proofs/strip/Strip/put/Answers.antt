@@ -20,15 +20,16 @@ returns-then-not-admits g c =
       lender = refl {a = c.args.self.now.letters.ghost_name};
     }
 
-pub invariant-of-self : goal.invariant-of-self
-invariant-of-self g c =
+pub invariant_of-self : goal.invariant_of-self
+invariant_of-self g c =
     let s = c.args.self.now in
     let room : s.len < capacity_of s = omega (arith, c.if-place-capacity.false, c.capacity.ensures) in
     let free : s.len < length s.letters.now = omega arith in
-    let admitted = subst (Admits c.args.letter) c.word.ensures.word (c.admits.ensures.0 c.if-not-admits.false) in (
-      omega (arith, length-set s.letters.now s.len c.args.letter),
-      (subst (λ v. ∥ AtMost 64 v ∥₁) (sym (take_more_set s.letters.now s.len c.args.letter free)) (few_added (word_of s) c.args.letter admitted s.few), tt),
-    )
+    let admitted = subst (Admits c.args.letter) c.word.ensures.word (c.admits.ensures.0 c.if-not-admits.false) in
+    record {
+      fits = omega (arith, length-set s.letters.now s.len c.args.letter);
+      few = subst (λ v. ∥ AtMost 64 v ∥₁) (sym (take_more_set s.letters.now s.len c.args.letter free)) (few_added (word_of s) c.args.letter admitted s.few);
+    }
 
 pub returns : goal.returns
 returns g c =

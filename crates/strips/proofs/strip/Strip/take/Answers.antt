@@ -5,11 +5,11 @@ use Rattle.strips.proofs.strip.Strip.take.Goals as goal
 pub returns-then-self-eq0 : goal.returns-then-self-eq0
 returns-then-self-eq0 g c = record { outcome = take_empty c.args.self.now c.if-self-eq0.true; lender = refl {a = c.args.self.now.letters.ghost_name} }
 
-pub invariant-of-self : goal.invariant-of-self
-invariant-of-self g c =
+pub invariant_of-self : goal.invariant_of-self
+invariant_of-self g c =
     let s = c.args.self.now in
     let fits = s.fits in
-    (omega arith, (few_fewer _ s.len s.letters.now (omega arith) s.few, tt))
+    record { fits = omega arith; few = few_fewer _ s.len s.letters.now (omega arith) s.few }
 
 pub returns : goal.returns
 returns g c =
