@@ -7,7 +7,7 @@ pub loop-letter-preserved : goal.loop-letter-preserved
 loop-letter-preserved g c =
     let code = g.L.CodedLetter.code in
     let more = fronts_length code c.args.row.now c.loop-letter.letter-index c.letter-item.result (omega arith) c.letter-item.is in
-    let len = decimal_long c.code.result (omega (arith, c.code.type-inv)) in
+    let len = decimal_long c.code.result (omega (arith, c.code.type_inv)) in
     let same = ap (λ n. length (decimal n)) c.code.ensures in (
       omega (arith, c.loop-letter.invariant.0, more, len, same, c.spelled_len-more.ensures.is),
       omega (arith, c.loop-letter.invariant.1, c.if-more-room.false),
@@ -19,7 +19,7 @@ returns-then-more-room g c =
     let i = c.loop-letter.letter-index in
     let more = fronts_length code c.args.row.now i c.letter-item.result (omega arith) c.letter-item.is in
     let within = fronts_within code c.args.row.now (i + 1) in
-    let len = decimal_long c.code.result (omega (arith, c.code.type-inv)) in
+    let len = decimal_long c.code.result (omega (arith, c.code.type_inv)) in
     let same = ap (λ n. length (decimal n)) c.code.ensures in
     omega (arith, c.loop-letter.invariant.0, c.loop-letter.invariant.1, more, within, len, same, c.spelled_len-more.ensures.is, c.if-more-room.true)
 

@@ -19,14 +19,14 @@ returns-else-room-ge7 g c side =
 pub returns-then-fixed-room : goal.returns-then-fixed-room
 returns-then-fixed-room g c side =
     let some = tests_some _ _ c.is_empty.ensures c.if-is_empty.false in
-    let long = row_long g.L.CodedLetter.code c.args.row.now c.index-row-0.result side some c.index-row-0.is (omega arith) (omega (arith, c.code.type-inv, c.code.ensures)) in
+    let long = row_long g.L.CodedLetter.code c.args.row.now c.index-row-0.result side some c.index-row-0.is (omega arith) (omega (arith, c.code.type_inv, c.code.ensures)) in
     let same = ap (λ n. length (spell 10 0 0 n)) c.code.ensures in
     omega (arith, long, same, c.if-fixed-room.true, c.spelled_len.ensures.is, c.spelled_len-2.ensures.is)
 
 pub returns-in-Some : goal.returns-in-Some
 returns-in-Some g c side =
     let some = tests_some _ _ c.is_empty.ensures c.if-is_empty.false in
-    let long = row_long g.L.CodedLetter.code c.args.row.now c.index-row-0.result side some c.index-row-0.is (omega arith) (omega (arith, c.code.type-inv, c.code.ensures)) in
+    let long = row_long g.L.CodedLetter.code c.args.row.now c.index-row-0.result side some c.index-row-0.is (omega arith) (omega (arith, c.code.type_inv, c.code.ensures)) in
     let same = ap (λ n. length (spell 10 0 0 n)) c.code.ensures in
     let codes = c.in-Some.ensures in (
       omega (arith, long, same, codes.0, c.spelled_len.ensures.is, c.spelled_len-2.ensures.is),
@@ -36,6 +36,6 @@ returns-in-Some g c side =
 pub returns-in-None : goal.returns-in-None
 returns-in-None g c side =
     let some = tests_some _ _ c.is_empty.ensures c.if-is_empty.false in
-    let long = row_long g.L.CodedLetter.code c.args.row.now c.index-row-0.result side some c.index-row-0.is (omega arith) (omega (arith, c.code.type-inv, c.code.ensures)) in
+    let long = row_long g.L.CodedLetter.code c.args.row.now c.index-row-0.result side some c.index-row-0.is (omega arith) (omega (arith, c.code.type_inv, c.code.ensures)) in
     let same = ap (λ n. length (spell 10 0 0 n)) c.code.ensures in
     omega (arith, long, same, c.in-None.ensures, c.if-fixed-room.false, c.spelled_len.ensures.is, c.spelled_len-2.ensures.is)

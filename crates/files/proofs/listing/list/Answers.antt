@@ -3,13 +3,13 @@ use Rattle.files.specs.Listing.{Listed, unopened}
 use Rattle.files.proofs.Progress.{file_listed}
 use Rattle.files.proofs.listing.list.Goals as goal
 
-pub returns-in_ok-push_records : goal.returns-in_ok-push_records
-returns-in_ok-push_records c =
+pub returns-in_ok-push_records-in-Ok : goal.returns-in_ok-push_records-in-Ok
+returns-in_ok-push_records-in-Ok c =
     let kind = c.kind-kind.ensures in
     let number = c.number-number.ensures in
-    let line = c.in_ok-text.ensures.ok in
-    file_listed c.in-Ok.reader _ _ _ c.in-Ok.ensures.answer (cc) c.in_ok-push_records.ensures
+    let line = c.in_ok-text-in-Ok.ensures.ok in
+    file_listed c.in-Ok.reader _ _ _ c.in-Ok.ensures.answer (cc) c.in_ok-push_records-in-Ok.ensures
 
-pub returns-in_ok-text-2 : goal.returns-in_ok-text-2
-returns-in_ok-text-2 c =
-    subst (Listed c.args.bytes.now) (sym c.in_ok-text-2.ensures.ok) (unopened c.in-Err.fault c.in-Err.ensures.answer)
+pub returns-in_ok-text-in-Err : goal.returns-in_ok-text-in-Err
+returns-in_ok-text-in-Err c =
+    subst (Listed c.args.bytes.now) (sym c.in_ok-text-in-Err.ensures.ok) (unopened c.in-Err.fault c.in-Err.ensures.answer)

@@ -19,8 +19,8 @@ returns-in_err-end c =
     let (cs, j, read, due, fault) = c.in_err-end.ensures in
     rw (p.1, p.2) (next_read _ (Err _) _ (omega arith, code_fault _ _ _ _ j _ (_, _, _, cs, c.in_ok-plate.ensures, read, due) fault, refl))
 
-pub slice_bounds-codes_end : goal.slice_bounds-codes_end
-slice_bounds-codes_end c =
+pub slice_bounds-codes-end : goal.slice_bounds-codes-end
+slice_bounds-codes-end c =
     let (m, plate, count, few) = c.in_ok-plate.ensures in
     let (cs, read, all) = c.in_ok-end.ensures in
     let next-within = reads_within _ _ _ _ count in
