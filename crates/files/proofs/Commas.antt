@@ -6,7 +6,7 @@ use Rattle.std.proofs.lemmas.List.{map_more, flat_map_more, take-append-drop, ta
 use Rattle.std.proofs.lemmas.Slice.{first_rest}
 use Rattle.std.proofs.lemmas.Bool.{cases_lt}
 use Rattle.std.proofs.lemmas.Bool.Decides.{Decides-eqb, not_from_Decides}
-use Rattle.std.specs.List.{between, flat_map}
+use Rattle.std.specs.List.{between}
 use Rattle.words.specs.declared.told.Side.{Side}
 use Rattle.words.specs.declared.told.Side.TheVariants.{Left, Right}
 use Rattle.files.specs.Line.{side_text, comma_text, row_text, line_text}

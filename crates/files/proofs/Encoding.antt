@@ -1,14 +1,13 @@
 -- The encoding of numbers can be read in one way only: the bytes of a number are no front part of another's, and a place
 -- where reading finds a fault has no number.
-use Rattle.std.proofs.Common.{◌≡◌, ℕ, zero, suc, ◌+◌, ◌*◌, ◌/◌, ◌%◌, ◌^◌, ◌<◌, ◌≤◌, List, [], ◌∷◌, ◌++◌, map, length, get_or, take, drop, Ok, Err, Result, sym, refl, ap, ◌∙◌, ⊎_elim, append_assoc, mod-lt, arith}
-use lib.ListN.{length-map}
-use Rattle.std.proofs.lemmas.Int.Digits.{digits_of_step, first_digits_of, length-digits_of-le, same_from_digits_of}
+use Rattle.std.proofs.Common.{◌≡◌, ℕ, zero, suc, ◌+◌, ◌/◌, ◌%◌, ◌<◌, List, [], ◌∷◌, ◌++◌, map, length, get_or, take, drop, Ok, Err, Result, sym, refl, ap, ◌∙◌, ⊎_elim, append_assoc, arith}
+use Rattle.std.proofs.lemmas.Int.Digits.{first_digits_of, length-digits_of-le, same_from_digits_of}
 use Rattle.std.proofs.lemmas.Bool.{cases_lt}
 use Rattle.std.specs.Int.Digits.{digits_of}
 use Rattle.files.specs.declared.number.Number.{Number}
 use Rattle.files.specs.declared.number.NumberFault.{NumberFault}
 use Rattle.files.specs.declared.number.NumberFault.TheVariants.{Missing, Padded, TooLong}
-use Rattle.files.specs.Numbers.{marked, encode, Stands, Reads, NumberAt, NumberRead}
+use Rattle.files.specs.Numbers.{marked, encode, Reads, NumberAt, NumberRead}
 
 -- Groups as bytes with a set top bit.
 abbrev mark : List ℕ → List ℕ

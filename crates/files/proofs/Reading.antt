@@ -1,12 +1,11 @@
 -- Reading a record: its numbers one after the other, and how a fault of one becomes the fault of the record.
-use Rattle.std.proofs.Common.{◌≡◌, ℕ, ◌+◌, ◌-◌, ◌/◌, ◌%◌, ◌<◌, ◌≤◌, ◌⊎◌, List, [], ◌∷◌, ◌++◌, length, take, drop, Ok, Err, sym, refl, ap, ◌∙◌, inl, inr, ⊎_elim, append_assoc, append-nil, arith, length-append, length-drop}
+use Rattle.std.proofs.Common.{◌≡◌, ℕ, ◌-◌, ◌/◌, ◌%◌, ◌<◌, ◌≤◌, ◌⊎◌, List, [], ◌∷◌, ◌++◌, length, take, drop, Err, sym, refl, ap, ◌∙◌, inl, inr, append_assoc, arith, length-append, length-drop}
 use Rattle.std.proofs.ByRecursion.{All-push}
 use Rattle.std.proofs.lemmas.List.{flat_map_more, length_push, take_at}
-use Rattle.std.specs.List.{flat_map}
 use Rattle.letters.specs.declared.kind.Kind.{Kind}
 use Rattle.letters.specs.Kinds.{IsCode}
 use Rattle.files.specs.declared.fault.FileFault.{FileFault}
-use Rattle.files.specs.declared.fault.FileFault.TheVariants.{InRecord, NotACode}
+use Rattle.files.specs.declared.fault.FileFault.TheVariants.{InRecord}
 use Rattle.files.specs.declared.number.NumberFault.{NumberFault}
 use Rattle.files.specs.Numbers.{marked, encode, Stands, Reads, NumberAt}
 use Rattle.files.specs.Records.{encode_codes, CodesRead, HeadRead, CountDue, CodeDue, RecordFault, Entry, Allowed, encode_entry}

@@ -1,11 +1,11 @@
 -- What the loop that reads a number keeps true: the bytes met so far are the marked groups of the value so far.
-use Rattle.std.proofs.Common.{◌≡◌, ℕ, suc, ◌+◌, ◌-◌, ◌*◌, ◌/◌, ◌%◌, ◌^◌, ◌<◌, ◌≤◌, ◌⊎◌, List, [], ◌∷◌, ◌++◌, map, length, get_or, take, drop, sym, refl, ap, ◌∙◌, ⊎_elim, append_assoc, pow-suc, add-one, arith, length-drop}
+use Rattle.std.proofs.Common.{◌≡◌, ℕ, ◌+◌, ◌-◌, ◌*◌, ◌/◌, ◌%◌, ◌^◌, ◌<◌, ◌≤◌, ◌⊎◌, List, [], ◌∷◌, ◌++◌, map, length, get_or, take, drop, sym, refl, ap, ◌∙◌, ⊎_elim, append_assoc, pow-suc, add-one, arith, length-drop}
 use native.Mathlib.Nat.{pow-le-pow_right}
 use Rattle.std.proofs.lemmas.Int.Digits.{digits_of_step}
 use Rattle.std.proofs.lemmas.List.{map_push, drop-drop, take-append-drop, take_all, take_at, drop_more, length_push}
 use Rattle.std.proofs.lemmas.Bool.{cases_lt}
 use Rattle.std.specs.Int.Digits.{digits_of}
-use Rattle.files.specs.Numbers.{marked, encode, Stands, Reads}
+use Rattle.files.specs.Numbers.{marked, encode, Reads}
 
 -- One more group at the end of a number that is not 0.
 pub marked_step : (v g : ℕ) → g < 128 → 0 < v * 128 + g → marked (v * 128 + g) ≡ marked v ++ ((128 + g) ∷ [])

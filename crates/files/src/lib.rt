@@ -1,4 +1,5 @@
 //! Word files: how plates and their words stand in bytes.
+#![tactic(auto)]
 
 mod fault;
 mod line;

@@ -2,6 +2,7 @@
 //!
 //! The two traits say what any kind of letter must keep (an order; a code), as laws that generic
 //! code may use. The kinds themselves are `Mode` and `Tap`.
+#![tactic(auto)]
 
 mod coded;
 mod kind;

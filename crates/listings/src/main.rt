@@ -2,6 +2,7 @@
 //!
 //! The folder that it is run in has a file `index` with a name to a line, and for each NAME the bytes
 //! of a word file as hexadecimal digits, `NAME.hex`, and its listing, `NAME.list`.
+#![tactic(auto)]
 
 use files::list;
 use std::alloc::{AllocError, Global};

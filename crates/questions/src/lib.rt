@@ -1,4 +1,5 @@
 //! Questions about the words on strips.
+#![tactic(auto)]
 
 mod fault;
 mod telling;

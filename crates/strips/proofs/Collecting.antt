@@ -1,5 +1,5 @@
 -- Collecting the different letters of a word, one place of the word after the other.
-use Rattle.std.proofs.Common.{◌≡◌, ℕ, ◌+◌, ◌<◌, ◌≤◌, ◌⊎◌, List, [], ◌∷◌, ◌++◌, length, get_or, take, drop, set, sym, refl, ap, ◌∙◌, subst, inl, inr, ⊎_elim, arith, length-set}
+use Rattle.std.proofs.Common.{◌≡◌, ℕ, ◌+◌, ◌<◌, ◌≤◌, List, [], ◌∷◌, ◌++◌, length, get_or, take, set, sym, ◌∙◌, subst, inl, ⊎_elim, arith, length-set}
 use Rattle.std.proofs.lemmas.List.{take_more_set, length-take-le, take_all}
 use Rattle.strips.specs.Words.{In, AtMost}
 use Rattle.strips.proofs.Letters.{Different, in_left, in_right, in_parts, in_front, in_more, in_place, no_more, different_push}

@@ -1,7 +1,7 @@
 -- The strip rule gives a call on a word one outcome at most.
-use Rattle.std.proofs.Common.{◌≡◌, ℕ, ◌<◌, ◌≤◌, List, [], ◌∷◌, ◌++◌, length, sym, refl, ap, ◌∙◌, arith}
+use Rattle.std.proofs.Common.{◌≡◌, ℕ, List, [], ◌∷◌, ◌++◌, length, sym, refl, ap, ◌∙◌, arith}
 use Rattle.std.proofs.lemmas.List.{length_push, same_from_push}
-use Rattle.strips.specs.Rule.{Call, Put, Take, Clear, Answer, Done, Taken, Refused, Rule, full, crowded, added, empty, removed, cleared, RuleIsOne}
+use Rattle.strips.specs.Rule.{Call, Put, Take, Clear, Answer, Taken, Rule, full, crowded, added, empty, removed, cleared, RuleIsOne}
 
 module _ {A : Type 0} (capacity : ℕ) (w : List A) where
   not_both : (v : List A) (a : A) → w ≡ [] → w ≡ v ++ (a ∷ []) → ⊥

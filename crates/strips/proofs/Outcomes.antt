@@ -4,7 +4,7 @@ use Rattle.std.proofs.lemmas.List.{length_push, take-append-drop, drop_at, set_s
 use Rattle.strips.specs.declared.strip.Strip.{Strip}
 use Rattle.strips.specs.Words.{In, AtMost}
 use Rattle.strips.specs.Rule.{Call, Put, Take, Clear, Answer, Done, Taken, Refused, Rule, full, crowded, added, empty, removed, cleared}
-use Rattle.strips.specs.Strips.{Obeys, memory_of, word_of, capacity_of}
+use Rattle.strips.specs.Strips.{Obeys, memory_of, word_of}
 use Rattle.strips.proofs.Calls.{word_length}
 use Rattle.strips.proofs.Letters.{at_most_none, at_most_less, at_most_same, at_most_more, in_left}
 

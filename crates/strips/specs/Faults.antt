@@ -1,5 +1,5 @@
 -- The refusals of a strip: each with its number and its place.
-use Rattle.std.specs.Prelude.{ℕ, List, [], ◌∷◌, ◌++◌, codes, decimal}
+use Rattle.std.specs.Prelude.{ℕ, List, ◌++◌, codes, decimal}
 use Rattle.strips.specs.declared.fault.StripFault.{StripFault}
 use Rattle.strips.specs.declared.fault.StripFault.TheVariants.{Full, TooManyKinds, Empty}
 

@@ -1,4 +1,5 @@
 //! Strips: one word each, in memory that the caller lends.
+#![tactic(auto)]
 
 mod fault;
 mod kinds;

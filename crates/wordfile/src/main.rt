@@ -1,4 +1,5 @@
 //! `wordfile`: reads a word file from standard input and lists what is in it.
+#![tactic(auto)]
 
 use files::list;
 use std::io;

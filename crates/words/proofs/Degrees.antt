@@ -1,7 +1,7 @@
 -- The degree of two words: the length of a shortest telling row, counted up to a cap. It follows a letter that is put in
 -- front of a word, it is the least coordinate between two end parts of one word, and it is found letter by letter from what
 -- follows the first occurrences in both words.
-use Rattle.std.proofs.Common.{◌≡◌, ℕ, suc, ◌<◌, ◌≤◌, min, ◌⊎◌, ◌↔◌, List, [], ◌∷◌, ◌++◌, length, take, sym, refl, inl, inr, ⊎_elim, arith, length-take}
+use Rattle.std.proofs.Common.{◌≡◌, ℕ, suc, ◌<◌, ◌≤◌, min, ◌⊎◌, List, [], ◌∷◌, ◌++◌, length, take, sym, refl, inl, inr, ⊎_elim, arith, length-take}
 use native.Mathlib.Decide.{dec_lt, dec_le}
 use mathlib.Core.List.{List-discrete}
 pub use Rattle.words.specs.Degrees.{Degree, Follow, both, first_only, second_only, neither}

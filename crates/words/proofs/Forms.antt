@@ -1,6 +1,6 @@
 -- Congruent lean words are equally long, and the sorted one among them is the form of the whole class: where another lean
 -- word first differs from it, the run that begins there is in order, and a word that is not lean is longer.
-use Rattle.std.proofs.Common.{◌≡◌, ℕ, suc, ◌⊎◌, ◌↔◌, List, [], ◌∷◌, ◌++◌, length, refl, ap, inl, inr, ⊎_elim, append_assoc, append-nil, arith, length-append}
+use Rattle.std.proofs.Common.{◌≡◌, ℕ, suc, ◌↔◌, List, [], ◌∷◌, ◌++◌, length, refl, ap, inl, inr, ⊎_elim, append_assoc, append-nil, arith, length-append}
 use native.Mathlib.Decide.{ℕ_discrete}
 use Rattle.words.specs.Words.{Congruent, Order, LexBefore, here, there, Earlier, IsForm}
 use Rattle.words.proofs.Subsequences.{sub_length, length_around, congruent_sym, congruent_trans}

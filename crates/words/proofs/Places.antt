@@ -1,6 +1,6 @@
 -- End parts, stops, partners and degrees by places: place `i` of a word `w` stands for the end part `drop i w`. The place
 -- above a place, the sibling of a place, and how the partner of a place is found from the partner of the place above.
-use Rattle.std.proofs.Common.{◌≡◌, ℕ, zero, suc, ◌+◌, ◌-◌, ◌<◌, ◌≤◌, min, ◌⊎◌, ◌↔◌, List, [], ◌∷◌, ◌++◌, length, get_or, take, drop, sym, refl, ap, ◌∙◌, inl, inr, arith, length-drop, take-append-drop, length-take, drop-drop}
+use Rattle.std.proofs.Common.{◌≡◌, ℕ, zero, suc, ◌+◌, ◌-◌, ◌<◌, ◌≤◌, min, ◌⊎◌, ◌↔◌, List, [], ◌∷◌, ◌++◌, length, take, drop, sym, refl, ap, ◌∙◌, inl, inr, arith, length-drop, take-append-drop, length-take, drop-drop}
 use native.Mathlib.Decide.{dec_le, dec_lt}
 use lib.Seq.{drop-nil, drop-length}
 pub use Rattle.words.specs.Places.{Paired, depth, StopsAt, Above, Sibling}

@@ -1,9 +1,9 @@
 -- The first telling row of two words of ranks: the start and the end of the steps that find it.
-use Rattle.std.proofs.Common.{◌≡◌, ℕ, zero, suc, ◌+◌, ◌<◌, ◌≤◌, min, List, [], length, get_or, drop, replicate, sym, refl, ap, ◌∙◌, arith}
+use Rattle.std.proofs.Common.{◌≡◌, ℕ, zero, suc, ◌<◌, List, length, get_or, replicate, sym, refl, ap, ◌∙◌, arith}
 use native.Mathlib.Decide.{ℕ_discrete}
 use lib.ListN.{length-replicate}
 use lib.Seq.{drop-length}
-use Rattle.words.specs.Degrees.{Degree, Follow}
+use Rattle.words.specs.Degrees.{Degree}
 use Rattle.words.specs.Reading.{Reads}
 use Rattle.words.specs.RowSteps.{cap}
 use Rattle.words.specs.Stairs.{Met, DegreeBy}

@@ -1,12 +1,11 @@
 -- The first telling row of two words of ranks, letter by letter, as it is written.
-use Rattle.std.proofs.Common.{◌≡◌, ℕ, zero, suc, ◌+◌, ◌-◌, ◌<◌, ◌≤◌, ◌⊎◌, List, [], ◌∷◌, ◌++◌, length, get_or, take, drop, set, sym, refl, ap, ◌∙◌, inl, inr, append_assoc, add-one, arith}
+use Rattle.std.proofs.Common.{◌≡◌, ℕ, suc, ◌+◌, ◌-◌, ◌<◌, ◌≤◌, ◌⊎◌, List, [], ◌∷◌, ◌++◌, length, get_or, take, drop, set, sym, ◌∙◌, inl, inr, append_assoc, arith}
 use native.Mathlib.Decide.{dec_lt, ℕ_discrete}
 use Rattle.std.proofs.lemmas.List.{get_or_past, take_more_set}
 use Rattle.words.specs.Words.{Sub, Congruent, Tells, Telling, Order, FirstTelling}
 use Rattle.words.specs.Degrees.{Degree, after, Follow, both, first_only, second_only, neither}
-use Rattle.words.specs.Reading.{Behind, absent, behind, Reads}
+use Rattle.words.specs.Reading.{Reads}
 use Rattle.words.specs.RowSteps.{cap}
-use Rattle.words.specs.Stairs.{Ready}
 use Rattle.words.specs.Rows.{FirstLetter}
 use Rattle.words.specs.declared.reading.Reading.{Reading}
 use Rattle.words.specs.declared.stairs.Pair.{Pair}

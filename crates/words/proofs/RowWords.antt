@@ -1,8 +1,8 @@
 -- From ranks back to letters: the first telling row of the ranks, spelled in the list of letters, is that of the words.
-use Rattle.std.proofs.Common.{◌≡◌, ℕ, zero, suc, ◌+◌, ◌<◌, ◌≤◌, min, ◌⊎◌, List, [], ◌∷◌, ◌++◌, length, get_or, take, drop, set, Some, sym, refl, ap, ◌∙◌, inl, inr, ⊎_elim, arith, length-append}
+use Rattle.std.proofs.Common.{◌≡◌, ℕ, ◌+◌, ◌<◌, ◌≤◌, List, ◌++◌, length, get_or, take, drop, set, Some, sym, refl, ap, ◌∙◌, ⊎_elim, arith, length-append}
 use Rattle.std.specs.List.{slice_get}
 use Rattle.std.proofs.lemmas.List.{length-set, length-take-le, take_more, take_more_set, take_all, drop-set-lt, drop-drop}
-use Rattle.words.specs.Steps.{Below, Spells, nothing, letter, Rising, Numbered}
+use Rattle.words.specs.Steps.{Below, Spells, nothing, Numbered}
 use Rattle.words.specs.Words.{Sub, Order, Telling, FirstTelling}
 use Rattle.words.specs.Separating.{TellsOn, Separated}
 use Rattle.words.specs.declared.told.Side.{Side}

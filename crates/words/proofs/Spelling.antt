@@ -1,7 +1,7 @@
 -- Words by the numbers of their letters in a list. A list whose letters rise strictly is an embedding: its numbers lie in
 -- the order of the letters, so subsequences, congruence, the order of words, forms and first telling rows of the numbers
 -- are those of the letters.
-use Rattle.std.proofs.Common.{◌≡◌, ℕ, zero, suc, ◌<◌, ◌⊎◌, List, [], ◌∷◌, ◌++◌, length, get_or, take, drop, Some, sym, refl, ap, ◌∙◌, inl, inr, ⊎_elim, arith}
+use Rattle.std.proofs.Common.{◌≡◌, ℕ, zero, suc, ◌<◌, List, [], ◌∷◌, ◌++◌, length, get_or, take, drop, Some, sym, refl, ap, ◌∙◌, inl, inr, ⊎_elim, arith}
 use native.Mathlib.Decide.{dec_lt}
 use Rattle.std.specs.List.{slice_get}
 use Rattle.std.proofs.iter.runs.Lists.{none-some, same_Some, slice_get_within}

@@ -1,7 +1,7 @@
 -- The places above the places of a word, kept on a stack by depth while the word is read from right to left; the siblings
 -- of its places; and the partners of the places of another word.
-use Rattle.std.proofs.Common.{◌≡◌, ℕ, zero, suc, ◌+◌, ◌-◌, ◌<◌, ◌≤◌, ◌≢◌, ◌⊎◌, List, length, get_or, set, replicate, sym, refl, ap, ◌∙◌, inl, inr, add-one, arith, length-set, get_or-set_other, get_or-set_same}
-use native.Mathlib.Decide.{dec_le, dec_lt, ℕ_discrete}
+use Rattle.std.proofs.Common.{◌≡◌, ℕ, zero, suc, ◌+◌, ◌-◌, ◌<◌, ◌≤◌, ◌≢◌, ◌⊎◌, List, length, get_or, set, replicate, sym, refl, ap, inl, inr, add-one, arith, length-set, get_or-set_other, get_or-set_same}
+use native.Mathlib.Decide.{dec_lt, ℕ_discrete}
 use lib.ListN.{length-replicate}
 use Rattle.words.specs.Steps.{rights}
 use Rattle.words.specs.Places.{Paired, depth, StopsAt, Above, Sibling}

@@ -1,6 +1,6 @@
 -- The staircase: what the letters say of two end parts, how that changes when a letter is put in front of one of them, and
 -- what stands for the next place of the left word.
-use Rattle.std.proofs.Common.{◌≡◌, ℕ, suc, ◌+◌, ◌-◌, ◌<◌, ◌≤◌, min, ◌≢◌, ◌⊎◌, List, [], ◌∷◌, length, get_or, drop, set, sym, refl, ap, ◌∙◌, inl, inr, add-one, arith, length-drop, length-set, drop-cons, get_or-set_other, get_or-set_same}
+use Rattle.std.proofs.Common.{◌≡◌, ℕ, suc, ◌+◌, ◌-◌, ◌<◌, ◌≤◌, min, ◌≢◌, ◌⊎◌, List, [], ◌∷◌, length, get_or, drop, set, sym, refl, ◌∙◌, inl, inr, add-one, arith, length-set, drop-cons, get_or-set_other, get_or-set_same}
 use native.Mathlib.Decide.{dec_lt, ℕ_discrete}
 use lib.Seq.{drop-length}
 use Rattle.std.proofs.lemmas.List.{get_or_default, get_or_past}
@@ -9,7 +9,7 @@ use Rattle.words.specs.Degrees.{Degree, after, Follow, both, first_only, second_
 use Rattle.words.specs.Reading.{Behind, absent, behind, Reads}
 use Rattle.words.specs.Places.{Paired, depth}
 use Rattle.words.specs.RowSteps.{cap, Found}
-use Rattle.words.specs.Stairs.{Ready, Stand, PartnerFrom, Stood, Says, Met, DegreeBy}
+use Rattle.words.specs.Stairs.{Stand, PartnerFrom, Stood, Says, Met, DegreeBy}
 use Rattle.words.specs.declared.reading.Reading.{Reading}
 use Rattle.words.specs.declared.stairs.Pair.{Pair}
 use Rattle.words.specs.declared.stairs.Stairs.{Stairs}

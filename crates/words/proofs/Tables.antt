@@ -1,6 +1,6 @@
 -- The table of degrees between the end parts of one word: its rows, each made from the one before, and how two of its
 -- numbers answer for any stretch of the word.
-use Rattle.std.proofs.Common.{◌≡◌, ℕ, suc, ◌+◌, ◌-◌, ◌*◌, ◌%◌, ◌^◌, ◌<◌, ◌≤◌, min, ◌≢◌, ◌⊎◌, List, length, get_or, take, drop, set, sym, refl, ap, ◌∙◌, inl, inr, mul-le-mul_right, add-mul, pow-suc, add-one, arith, length-set, get_or-set_other, get_or-take, get_or-set_same, take-take, pow_pos}
+use Rattle.std.proofs.Common.{◌≡◌, ℕ, suc, ◌+◌, ◌-◌, ◌*◌, ◌%◌, ◌^◌, ◌<◌, ◌≤◌, min, ◌≢◌, ◌⊎◌, List, length, get_or, take, drop, set, sym, refl, ap, ◌∙◌, inl, inr, mul-le-mul_right, add-mul, pow-suc, add-one, arith, get_or-set_other, get_or-take, get_or-set_same, take-take, pow_pos}
 use native.Mathlib.Decide.{dec_lt, ℕ_discrete}
 use native.Mathlib.Nat.{pow-le-pow_right}
 use lib.Seq.{take-set-le}
@@ -8,7 +8,6 @@ use Rattle.std.proofs.lemmas.List.{drop_all}
 use Rattle.words.specs.Steps.{rights}
 use Rattle.words.specs.Degrees.{Degree}
 use Rattle.words.specs.RowSteps.{cap, Row, Rows}
-use Rattle.words.proofs.Degrees.{degree_sym}
 use Rattle.words.proofs.Places.{depth, depth_bound, degree_stretches, degree_place}
 
 -- lists with the same front have the same elements there

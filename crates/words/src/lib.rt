@@ -1,6 +1,7 @@
 //! Words as slices of letters: which words a word has as subsequences, when two words agree on the short ones, the form
 //! of a word, which is the same for all words that agree, and the first row that tells two words apart. The definitions
 //! are in `specs/`, what is shown of them in `proofs/`.
+#![tactic(auto)]
 
 mod fault;
 mod forming;

@@ -1,4 +1,4 @@
-use Rattle.std.proofs.Common.{◌≡◌, ◌<◌, length, ap, arith}
+use Rattle.std.proofs.Common.{length, ap, arith}
 use Rattle.files.specs.Line.{row_text}
 use Rattle.files.specs.Spelling.{spell}
 use Rattle.files.proofs.Commas.{row_long, row_empty, tests_empty, tests_some}

@@ -1,4 +1,4 @@
-use Rattle.std.proofs.Common.{◌≡◌, ◌≤◌, map, length, sym, ap, ◌∙◌, arith}
+use Rattle.std.proofs.Common.{length, sym, ap, arith}
 use Rattle.files.specs.Line.{row_text, line_text}
 use Rattle.files.proofs.Appending.{appends_more, retold, appends_first, decimal_long}
 use Rattle.files.proofs.Commas.{row_first, row_empty, line_long, tests_empty, tests_some}

@@ -1,4 +1,3 @@
-use Rattle.std.proofs.Common.{◌≡◌, ◌++◌, string_bytes, codes, decimal}
 use Rattle.files.proofs.Lines.{line_text_lem}
 use Rattle.files.proofs.listing.push_record.Goals as goal
 

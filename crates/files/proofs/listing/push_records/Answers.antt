@@ -1,4 +1,4 @@
-use Rattle.std.proofs.Common.{◌≡◌, Some, None, Ok, subst, arith, w64, Fits, rules}
+use Rattle.std.proofs.Common.{Some, Ok, subst, arith, w64, Fits, rules}
 use Rattle.files.specs.Records.{Next}
 use Rattle.files.proofs.Progress.{progress_start, progress_more, progress_forward, progress_end, progress_fault}
 use Rattle.files.proofs.listing.push_records.Goals as goal

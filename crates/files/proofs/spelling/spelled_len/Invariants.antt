@@ -1,4 +1,4 @@
-use Rattle.std.proofs.Common.{◌≡◌, ◌+◌, ◌/◌, ◌≤◌, length}
+use Rattle.std.proofs.Common.{◌≡◌, ◌+◌, ◌/◌, length}
 use Rattle.std.specs.Int.Digits.{digits_of}
 use Rattle.files.proofs.spelling.spelled_len.Given as goal
 

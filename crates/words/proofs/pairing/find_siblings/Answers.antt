@@ -1,5 +1,5 @@
 use Rattle.std.proofs.Common.{◌-◌, inl, inr, arith}
-use Rattle.words.proofs.Stacks.{stack_none, siblings_none, siblings_step, siblings_all, depth_index, depth_room, stack_place}
+use Rattle.words.proofs.Stacks.{stack_none, siblings_none, siblings_step, siblings_all, depth_index, depth_room}
 use Rattle.words.proofs.pairing.find_siblings.Goals as goal
 use Rattle.words.proofs.pairing.find_siblings.Goals.{then-depth-below, else-depth-below}
 

@@ -1,4 +1,3 @@
-use Rattle.std.proofs.Common.{arith}
 use Rattle.words.proofs.RowLetters.{tried_none, tried_more, letter_inside}
 use Rattle.words.proofs.row.first_letter.Goals as goal
 

@@ -1,4 +1,4 @@
-use Rattle.std.proofs.Common.{refl, inl, inr, arith}
+use Rattle.std.proofs.Common.{inl, inr, arith}
 use Rattle.words.proofs.Staircase.{partner_before, partner_here, partner_later, stand_partner, stand_other, met_degree}
 use Rattle.words.proofs.stairs.stand_for.Goals as goal
 use Rattle.words.proofs.stairs.stand_for.Goals.{then-partner-gt0+else-level-depth, else-partner-gt0}

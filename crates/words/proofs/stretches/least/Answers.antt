@@ -1,4 +1,4 @@
-use Rattle.std.proofs.Common.{◌-◌, ◌*◌, ◌%◌, ◌^◌, ◌<◌, ◌≤◌, refl, arith}
+use Rattle.std.proofs.Common.{◌-◌, refl, arith}
 use Rattle.words.proofs.Tables.{level_small, level_size, row_index, stretch_degree}
 use Rattle.words.proofs.stretches.least.Goals as goal
 

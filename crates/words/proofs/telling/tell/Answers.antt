@@ -1,4 +1,4 @@
-use Rattle.std.proofs.Common.{sym, refl, ◌∙◌, arith}
+use Rattle.std.proofs.Common.{sym, ◌∙◌, arith}
 use Rattle.words.proofs.RankRows.{met_end, whole_degree, words_same, some_letters}
 use Rattle.words.proofs.telling.tell.Goals as goal
 

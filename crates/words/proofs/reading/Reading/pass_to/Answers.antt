@@ -1,4 +1,4 @@
-use Rattle.std.proofs.Common.{refl, ◌∙◌, arith, length-set}
+use Rattle.std.proofs.Common.{refl, arith, length-set}
 use Rattle.words.proofs.Heads.{reads_pass}
 use Rattle.words.proofs.reading.Reading.pass_to.Goals as goal
 
