@@ -1,7 +1,7 @@
 -- What the loops of a listing keep true: the text so far is what was read so far.
 use Rattle.std.proofs.Common.{◌≡◌, ℕ, ◌+◌, ◌/◌, ◌%◌, ◌^◌, ◌<◌, ◌≤◌, List, [], ◌∷◌, ◌++◌, length, drop, Err, codes, decimal, sym, refl, ap, ◌∙◌, append_assoc, append-nil, arith, length-append, length-drop}
 use Rattle.std.proofs.lemmas.List.{length_push, flat_map_more}
-use Rattle.std.specs.List.{AllByRecursion as All}
+use Rattle.std.specs.List.{AllByRecursion}
 use Rattle.files.specs.declared.number.NumberFault.{NumberFault}
 use Rattle.letters.specs.declared.kind.Kind.{Kind}
 use Rattle.letters.specs.Kinds.{IsCode}
@@ -15,11 +15,11 @@ use Rattle.files.proofs.OneReading.{front_stands, reads_no_fault, code_number}
 -- The word cs was shown up to some place: `left` are the codes that are still to come.
 abbrev pub Split : List ℕ → ℕ → List ℕ → List ℕ → List ℕ → Type 0
 Split bs at old text cs =
-    (shown : List ℕ) × (left : List ℕ) × (cs ≡ shown ++ left) × All (λ n. n < 2 ^ 28) left × (drop at bs ≡ encode_codes left) × (text ≡ old ++ codes_text shown)
+    (shown : List ℕ) × (left : List ℕ) × (cs ≡ shown ++ left) × AllByRecursion (λ n. n < 2 ^ 28) left × (drop at bs ≡ encode_codes left) × (text ≡ old ++ codes_text shown)
 
 -- Whatever word the bytes are of, its codes before the place were shown.
 pub record Shown (bs : List ℕ) (at : ℕ) (old text : List ℕ) : Type 0 where
-  pub split : (cs : List ℕ) → All (λ n. n < 2 ^ 28) cs → bs ≡ encode_codes cs → Split bs at old text cs
+  pub split : (cs : List ℕ) → AllByRecursion (λ n. n < 2 ^ 28) cs → bs ≡ encode_codes cs → Split bs at old text cs
 
 pub shown_none : (bs old : List ℕ) → Shown bs 0 old old
 shown_none bs old = record { split = λ cs small e. ([], cs, refl, small, e, sym (append-nil old)) }
@@ -43,7 +43,7 @@ shown_more bs old text text' at n next s inside (small, (p, q)) e = record { spl
         )
 
 -- At the end all of the word was shown.
-pub shown_all : (bs old text : List ℕ) (at : ℕ) → Shown bs at old text → length bs ≤ at → (cs : List ℕ) → All (λ n. n < 2 ^ 28) cs → bs ≡ encode_codes cs
+pub shown_all : (bs old text : List ℕ) (at : ℕ) → Shown bs at old text → length bs ≤ at → (cs : List ℕ) → AllByRecursion (λ n. n < 2 ^ 28) cs → bs ≡ encode_codes cs
     → text ≡ old ++ codes_text cs
 shown_all bs old text at s end cs few whole = go (s.split cs few whole)
   where
@@ -54,7 +54,7 @@ shown_all bs old text at s end cs few whole = go (s.split cs few whole)
 
 -- A word's bytes have a number at each of its codes.
 pub shown_number : (bs old text : List ℕ) (at : ℕ) (f : NumberFault) → Shown bs at old text → at < length bs → NumberAt bs at (Err f)
-    → (cs : List ℕ) → All (λ n. n < 2 ^ 28) cs → bs ≡ encode_codes cs → ⊥
+    → (cs : List ℕ) → AllByRecursion (λ n. n < 2 ^ 28) cs → bs ≡ encode_codes cs → ⊥
 shown_number bs old text at f s inside fault cs few whole = go (s.split cs few whole)
   where
     go : Split bs at old text cs → ⊥
@@ -67,14 +67,14 @@ added : (old a b c : List ℕ) {one two three : List ℕ} → one ≡ old ++ a �
 added old a b c p q r = r ∙ ap (λ x. x ++ c) (q ∙ ap (λ x. x ++ b) p) ∙ append_assoc (old ++ a) b c ∙ append_assoc old a (b ++ c)
 
 -- Codes are numbers.
-pub codes_small : (k : Kind) (cs : List ℕ) → All (IsCode k) cs → All (λ n. n < 2 ^ 28) cs
+pub codes_small : (k : Kind) (cs : List ℕ) → AllByRecursion (IsCode k) cs → AllByRecursion (λ n. n < 2 ^ 28) cs
 codes_small k [] h = tt
 codes_small k (c ∷ cs) (h, hs) = (code_number k c h, codes_small k cs hs)
 
 -- A record's line is its plate, its codes and the line's end.
 pub line_text_lem : (k : Kind) (last place : ℕ) (e : Entry) (r : Record) (old one two three : List ℕ) → Allowed k last e → Shows e place r
     → one ≡ old ++ (decimal r.plate ++ codes ":")
-    → ((cs : List ℕ) → All (λ n. n < 2 ^ 28) cs → r.codes.now ≡ encode_codes cs → two ≡ one ++ codes_text cs)
+    → ((cs : List ℕ) → AllByRecursion (λ n. n < 2 ^ 28) cs → r.codes.now ≡ encode_codes cs → two ≡ one ++ codes_text cs)
     → three ≡ two ++ codes "\n" → three ≡ old ++ entry_line e
 line_text_lem k last place e r old one two three allowed (plate, count, at, bytes) p q s =
     added old (decimal r.plate ++ codes ":") (codes_text e.codes) (codes "\n") p (q e.codes (codes_small k e.codes allowed.coded) bytes) s

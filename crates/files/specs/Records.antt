@@ -1,6 +1,6 @@
 -- Word files as bytes: what a file means, and what reading one record answers.
 use Rattle.std.specs.Prelude.{◌≡◌, ℕ, ◌^◌, ◌<◌, ◌≤◌, ◌⊎◌, List, [], ◌∷◌, ◌++◌, length, Some, None, Ok, Err, Option, Result}
-use Rattle.std.specs.List.{flat_map, AllByRecursion as All}
+use Rattle.std.specs.List.{flat_map, AllByRecursion}
 use Rattle.letters.specs.declared.kind.Kind.{Kind}
 use Rattle.letters.specs.Kinds.{IsCode, kind_number, kind_of}
 use Rattle.files.specs.declared.fault.FileFault.{FileFault}
@@ -31,7 +31,7 @@ pub record Allowed (k : Kind) (last : ℕ) (e : Entry) : Type 0 where
   pub rises : last < e.plate
   pub number : e.plate < 2 ^ 28
   pub few : length e.codes ≤ 4096
-  pub coded : All (IsCode k) e.codes
+  pub coded : AllByRecursion (IsCode k) e.codes
 
 -- The plate of the last of some entries; `last` if there is none.
 abbrev pub last_plate : ℕ → List Entry → ℕ
@@ -47,7 +47,7 @@ Rising k last (e ∷ es) = Allowed k last e × Rising k e.plate es
 
 -- From place i on stand codes of the kind, which end before place j.
 abbrev pub CodesRead : Kind → List ℕ → ℕ → List ℕ → ℕ → Type 0
-CodesRead k bs i cs j = Stands bs i (encode_codes cs) j × All (IsCode k) cs
+CodesRead k bs i cs j = Stands bs i (encode_codes cs) j × AllByRecursion (IsCode k) cs
 
 -- At place i stands a plate that exceeds the last one; the count is due at place j.
 abbrev pub PlateRead : List ℕ → ℕ → ℕ → ℕ → ℕ → Type 0

@@ -1,7 +1,7 @@
 //! Listing a word file: what is in it, line by line, as text for people.
 
 ghost use Rattle.std.specs.Prelude.{◌≡◌, ℕ, ◌^◌, ◌<◌, ◌≤◌, List, ◌++◌, length, IfOk, string_bytes, OnOk};
-ghost use Rattle.std.specs.List.{AllByRecursion as All};
+ghost use Rattle.std.specs.List.{AllByRecursion};
 ghost use Rattle.letters.specs.declared.kind.Kind.{Kind};
 ghost use Rattle.files.specs.Listing.{Listed, codes_text, entry_line};
 ghost use Rattle.files.specs.Steps.{RecordsListed};
@@ -13,7 +13,7 @@ use std::alloc::{AllocError, Global};
 
 /// Adds the codes in `bytes`, a space before each.
 fn push_codes(text: &mut String, heap: Global, bytes: &[u8]) -> Result<(), AllocError>
-    ensures { OnOk result ((cs : List ℕ) → All (λ n. n < 2 ^ 28) cs → bytes.now ≡ encode_codes cs → string_bytes text.new ≡ string_bytes text.old ++ codes_text cs) }
+    ensures { OnOk result ((cs : List ℕ) → AllByRecursion (λ n. n < 2 ^ 28) cs → bytes.now ≡ encode_codes cs → string_bytes text.new ≡ string_bytes text.old ++ codes_text cs) }
 {
     let mut at = 0;
     while at < bytes.len() {

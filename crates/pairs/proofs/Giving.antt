@@ -1,6 +1,6 @@
 -- The record that a reader gives is that of a plate: its codes are those of a word.
 use Rattle.std.proofs.Common.{◌≡◌, ℕ, List, [], ◌∷◌, map, Some, None, Ok, Option, sym, refl, ap, ◌∙◌, subst, MatchOption}
-use Rattle.std.specs.List.{AllByRecursion as All}
+use Rattle.std.specs.List.{AllByRecursion}
 use Rattle.letters.specs.declared.kind.Kind.{Kind}
 use Rattle.letters.specs.Kinds.{IsCode}
 use Rattle.files.specs.declared.reader.Reader.{Reader}
@@ -16,7 +16,7 @@ module _ {L : Type 0} (kind : Kind) (InRange : L → Type 0) (letter : ℕ → O
     (decodes : (n : ℕ) → MatchOption (letter n) (IsCode kind n → ⊥) (λ a. IsCode kind n × InRange a × (code a ≡ n))) where
   -- Each code has its letter, so codes of the kind are those of a word.
   abbrev Word : List ℕ → Type 0
-  Word cs = (w : List L) × All InRange w × (map code w ≡ cs)
+  Word cs = (w : List L) × AllByRecursion InRange w × (map code w ≡ cs)
 
   one_letter : (n : ℕ) → IsCode kind n → (a : L) × InRange a × (code a ≡ n)
   one_letter n h = go (letter n) (decodes n)
@@ -25,7 +25,7 @@ module _ {L : Type 0} (kind : Kind) (InRange : L → Type 0) (letter : ℕ → O
       go (Some a) d = (a, d.1, d.2)
       go None d = absurd (d h)
 
-  word_of : (cs : List ℕ) → All (IsCode kind) cs → Word cs
+  word_of : (cs : List ℕ) → AllByRecursion (IsCode kind) cs → Word cs
   word_of [] h = ([], tt, refl)
   word_of (c ∷ cs) (h, hs) =
       let (a, in-range, is) = one_letter c h in
@@ -35,7 +35,7 @@ module _ {L : Type 0} (kind : Kind) (InRange : L → Type 0) (letter : ℕ → O
   -- A record that was given, as the plate that it shows.
   pub record Plated (a : Reader) (r : Record) (b : Reader) : Type 0 where
     pub word : List L
-    pub ranged : All InRange word
+    pub ranged : AllByRecursion InRange word
     pub given : Given kind InRange code a (record { number = r.plate; word = word }) b
     pub bytes : r.codes.now ≡ encode_codes (map code word)
     pub place : r.place ≡ a.at

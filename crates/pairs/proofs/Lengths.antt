@@ -1,7 +1,7 @@
 -- How long the lines of a run are: with strips of 400 letters, 4,096 bytes suffice.
 use Rattle.std.proofs.Common.{◌≡◌, ℕ, ◌+◌, ◌*◌, ◌^◌, ◌<◌, ◌≤◌, List, [], ◌∷◌, ◌++◌, map, length, Err, codes, decimal, refl, arith, length-append}
 use Rattle.std.proofs.lemmas.Fmt.{length-decimal-le}
-use Rattle.std.specs.List.{AllByRecursion as All}
+use Rattle.std.specs.List.{AllByRecursion}
 use Rattle.words.specs.declared.told.Side.{Side}
 use Rattle.words.specs.declared.told.Side.TheVariants.{Left, Right}
 use Rattle.words.specs.Words.{Sub, done, skip, keep}
@@ -38,12 +38,12 @@ side_length : (side : Side) → length (side_text side) ≡ 3
 side_length Left = refl
 side_length Right = refl
 
-commas_short : (cs : List ℕ) → All (λ c. c ≤ 268435455) cs → length (comma_text cs) ≤ 10 * length cs
+commas_short : (cs : List ℕ) → AllByRecursion (λ c. c ≤ 268435455) cs → length (comma_text cs) ≤ 10 * length cs
 commas_short [] h = omega arith
 commas_short (c ∷ cs) (h, hs) =
     omega (arith, length-append (codes "," ++ decimal c) (comma_text cs), code_short c h, commas_short cs hs)
 
-row_short : (side : Side) (cs : List ℕ) → length cs ≤ 401 → All (λ c. c ≤ 268435455) cs → length (row_text side cs) ≤ 4070
+row_short : (side : Side) (cs : List ℕ) → length cs ≤ 401 → AllByRecursion (λ c. c ≤ 268435455) cs → length (row_text side cs) ≤ 4070
 row_short side [] few h = omega arith
 row_short side (c ∷ cs) few (h, hs) =
     omega (
@@ -59,7 +59,7 @@ row_short side (c ∷ cs) few (h, hs) =
     )
 
 -- and that of two plates.
-pub line_short : (first second : ℕ) (side : Side) (cs : List ℕ) → first < 2 ^ 32 → second < 2 ^ 32 → length cs ≤ 401 → All (λ c. c ≤ 268435455) cs
+pub line_short : (first second : ℕ) (side : Side) (cs : List ℕ) → first < 2 ^ 32 → second < 2 ^ 32 → length cs ≤ 401 → AllByRecursion (λ c. c ≤ 268435455) cs
     → length (line_text first second side cs) ≤ 4096
 line_short first second side cs p q few h =
     omega (
@@ -73,17 +73,17 @@ line_short first second side cs p q few h =
 
 module _ {L : Type 0} where
   -- What holds of every letter of a word holds of those of a subsequence,
-  sub_all : (P : L → Type 0) {z w : List L} → Sub z w → All P w → All P z
+  sub_all : (P : L → Type 0) {z w : List L} → Sub z w → AllByRecursion P w → AllByRecursion P z
   sub_all P done h = tt
   sub_all P (skip s) (h, hs) = sub_all P s hs
   sub_all P (keep s) (h, hs) = (h, sub_all P s hs)
 
   -- so of those of a telling row.
-  pub row_all : (P : L → Type 0) (z u v : List L) (side : Side) → TellsOn side z u v → All P u → All P v → All P z
+  pub row_all : (P : L → Type 0) (z u v : List L) (side : Side) → TellsOn side z u v → AllByRecursion P u → AllByRecursion P v → AllByRecursion P z
   row_all P z u v Left t h k = sub_all P t.0 h
   row_all P z u v Right t h k = sub_all P t.0 k
 
-  pub codes_of : (code : L → ℕ) (InRange : L → Type 0) → ((a : L) → InRange a → code a ≤ 268435455) → (w : List L) → All InRange w → All (λ c. c ≤ 268435455) (map code w)
+  pub codes_of : (code : L → ℕ) (InRange : L → Type 0) → ((a : L) → InRange a → code a ≤ 268435455) → (w : List L) → AllByRecursion InRange w → AllByRecursion (λ c. c ≤ 268435455) (map code w)
   codes_of code InRange small [] h = tt
   codes_of code InRange small (a ∷ w) (h, hs) = (small a h, codes_of code InRange small w hs)
 

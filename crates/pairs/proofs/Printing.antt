@@ -2,7 +2,7 @@
 use Rattle.std.proofs.Common.{◌≡◌, ℕ, ◌^◌, ◌<◌, ◌≤◌, Bool, true, false, List, [], ◌∷◌, map, length, take, drop, Some, None, Ok, Err, Option, sym, ap, ◌∙◌, subst, inl, inr, arith, length-take}
 use lib.ListN.{length-map}
 use Rattle.std.proofs.lemmas.List.{take_at}
-use Rattle.std.specs.List.{AllByRecursion as All}
+use Rattle.std.specs.List.{AllByRecursion}
 use Rattle.letters.specs.declared.kind.Kind.{Kind}
 use Rattle.words.specs.declared.told.Telling.{Telling}
 use Rattle.words.specs.declared.told.Side.TheVariants.{Left}
@@ -32,7 +32,7 @@ module _ {L : Type 0} (lt : L → L → Type 0) (kind : Kind) (InRange : L → T
 
   -- It is not too long for the memory.
   asked_short : (p q : Plate L) (row row' : List L) (scratch scratch' : List ℕ) (answer : Option Telling) → p.number < 2 ^ 32 → q.number < 2 ^ 32
-      → All InRange p.word → All InRange q.word → length p.word ≤ 400
+      → AllByRecursion InRange p.word → AllByRecursion InRange q.word → length p.word ≤ 400
       → Asked lt p.word q.word row scratch (Ok answer) row' scratch' → length (told_line lt code p q row' answer) ≤ 4096
   asked_short p q row row' scratch scratch' None m n g h few (enough, room, (same, kept)) = line_short p.number q.number Left [] m n (omega arith) tt
   asked_short p q row row' scratch scratch' (Some t) m n g h few (enough, room, first) =
@@ -41,7 +41,7 @@ module _ {L : Type 0} (lt : L → L → Type 0) (kind : Kind) (InRange : L → T
       line_short p.number q.number t.side (map code z) m n (omega (arith, length-map z code, long, first.few)) (codes_of code InRange small z (row_all InRange z p.word q.word t.side first.side g h))
 
   module _ (a b : Reader) (p : Plate L) (s t : Strip L) (row row' : List L) (scratch scratch' line line' : List ℕ)
-      (room : Room row scratch line) (same_kind : a.kind ≡ kind) (full : capacity_of s ≡ 400) (ranged : All InRange p.word) (few : length p.word ≤ 400) (number : p.number < 2 ^ 32) where
+      (room : Room row scratch line) (same_kind : a.kind ≡ kind) (full : capacity_of s ≡ 400) (ranged : AllByRecursion InRange p.word) (few : length p.word ≤ 400) (number : p.number < 2 ^ 32) where
     -- The line that a step has written.
     pub record Stepped (next : NextLine) : Type 0 where
       pub word : List L

@@ -1,7 +1,7 @@
 -- Putting a word on a strip letter by letter, as its codes are read: what stays true, and how it ends.
 use Rattle.std.proofs.Common.{◌≡◌, ℕ, ◌+◌, ◌-◌, ◌≤◌, List, [], ◌∷◌, ◌++◌, map, length, drop, Some, None, Ok, Err, Option, Result, sym, refl, ap, ◌∙◌, subst, append_assoc, append-nil, arith, length-drop, MatchOption}
 use Rattle.std.proofs.lemmas.List.{length_push, drop-drop}
-use Rattle.std.specs.List.{AllByRecursion as All}
+use Rattle.std.specs.List.{AllByRecursion}
 use Rattle.letters.specs.declared.kind.Kind.{Kind}
 use Rattle.letters.specs.Kinds.{IsCode}
 use Rattle.files.specs.declared.fault.FileFault.{FileFault}
@@ -11,7 +11,7 @@ use Rattle.files.specs.Records.{encode_codes}
 use Rattle.files.specs.Words.{LetterAt, LetterRead}
 use Rattle.files.proofs.OneReading.{front_stands, reads_inside}
 use Rattle.strips.specs.declared.fault.StripFault.{StripFault}
-use Rattle.strips.specs.declared.fault.StripFault.TheVariants.{Full, TooManyKinds, Empty, Scratch}
+use Rattle.strips.specs.declared.fault.StripFault.TheVariants.{Full, TooManyKinds, Empty}
 use Rattle.strips.specs.declared.strip.Strip.{Strip}
 use Rattle.strips.specs.Rule.{Put, Clear, Answer, Done, Rule, full, crowded, added}
 use Rattle.strips.specs.Strips.{word_of, memory_of, capacity_of, Obeys, put_answer}
@@ -25,7 +25,7 @@ module _ {L : Type 0} (InRange : L → Type 0) (code : L → ℕ) where
   pub record Part (bs : List ℕ) (at : ℕ) (u w : List L) : Type 0 where
     pub rest : List L
     pub split : w ≡ u ++ rest
-    pub ranged : All InRange rest
+    pub ranged : AllByRecursion InRange rest
     pub bytes : drop at bs ≡ encode_codes (map code rest)
 
   -- The letter a is the next of the word, read up to the place j.
@@ -36,7 +36,7 @@ module _ {L : Type 0} (InRange : L → Type 0) (code : L → ℕ) where
 
   -- What the loop keeps true: of every word that the bytes may be, the strip has the letters read so far.
   pub record Loading (bs : List ℕ) (s₀ s : Strip L) (at : ℕ) : Type 0 where
-    pub part : (w : List L) → All InRange w → bs ≡ encode_codes (map code w) → Part bs at (word_of s) w
+    pub part : (w : List L) → AllByRecursion InRange w → bs ≡ encode_codes (map code w) → Part bs at (word_of s) w
     pub holds : Holds (capacity_of s₀) (word_of s)
     pub behind : Behind s₀ s
 
@@ -78,7 +78,7 @@ module _ {L : Type 0} (kind : Kind) (InRange : L → Type 0) (letter : ℕ → O
   pub part_no_fault : (bs : List ℕ) (at j : ℕ) (u w : List L) (f : FileFault) → Part InRange code bs at u w → LetterRead kind InRange code bs at (Err f) j → ⊥
   part_no_fault bs at j u w f p r = go p.rest p.ranged p.bytes
     where
-      go : (rest : List L) → All InRange rest → drop at bs ≡ encode_codes (map code rest) → ⊥
+      go : (rest : List L) → AllByRecursion InRange rest → drop at bs ≡ encode_codes (map code rest) → ⊥
       go [] h e = no_fault bs at j f (none_left bs at e) r.answer
       go (b ∷ rest) (h, hs) e =
           let only = r.only b (at + length (encode (code b))) h (next_stands bs at b rest h e).0 in
@@ -89,7 +89,7 @@ module _ {L : Type 0} (kind : Kind) (InRange : L → Type 0) (letter : ℕ → O
   pub part_end : (bs : List ℕ) (at j : ℕ) (u w : List L) → Part InRange code bs at u w → LetterRead kind InRange code bs at (Ok None) j → u ≡ w
   part_end bs at j u w p r = go p.rest p.split p.ranged p.bytes
     where
-      go : (rest : List L) → w ≡ u ++ rest → All InRange rest → drop at bs ≡ encode_codes (map code rest) → u ≡ w
+      go : (rest : List L) → w ≡ u ++ rest → AllByRecursion InRange rest → drop at bs ≡ encode_codes (map code rest) → u ≡ w
       go [] s h e = sym (s ∙ append-nil u)
       go (b ∷ rest) s (h, hs) e =
           let only = r.only b (at + length (encode (code b))) h (next_stands bs at b rest h e).0 in
@@ -100,7 +100,7 @@ module _ {L : Type 0} (kind : Kind) (InRange : L → Type 0) (letter : ℕ → O
   pub part_more : (bs : List ℕ) (at j : ℕ) (u w : List L) (a : L) → Part InRange code bs at u w → LetterRead kind InRange code bs at (Ok (Some a)) j → OneMore InRange code bs u w a j
   part_more bs at j u w a p r = go p.rest p.split p.ranged p.bytes
     where
-      go : (rest : List L) → w ≡ u ++ rest → All InRange rest → drop at bs ≡ encode_codes (map code rest) → OneMore InRange code bs u w a j
+      go : (rest : List L) → w ≡ u ++ rest → AllByRecursion InRange rest → drop at bs ≡ encode_codes (map code rest) → OneMore InRange code bs u w a j
       go [] s h e = absurd (reads_inside bs at (code a) j r.answer.1 (none_left bs at e))
       go (b ∷ rest) s (h, hs) e =
           let (reads, behind) = next_stands bs at b rest h e in
@@ -133,12 +133,12 @@ module _ {L : Type 0} (kind : Kind) (InRange : L → Type 0) (letter : ℕ → O
       ap (λ i. drop i x) (sym split) ∙ sym (drop-drop (n - m) m x) ∙ ap (drop (n - m)) e ∙ drop-drop (n - m) m y ∙ ap (λ i. drop i y) split
 
   -- A letter was put on the strip;
-  pub loading_more : {lt : L → L → Type 0} (bs : List ℕ) (s₀ s t : Strip L) (at j : ℕ) (a : L) → Loading InRange code bs s₀ s at → LetterRead kind InRange code bs at (Ok (Some a)) j
-      → Obeys lt s (Put a) Done t → Loading InRange code bs s₀ t j
-  loading_more {lt} bs s₀ s t at j a l r o =
+  pub loading_more : (bs : List ℕ) (s₀ s t : Strip L) (at j : ℕ) (a : L) → Loading InRange code bs s₀ s at → LetterRead kind InRange code bs at (Ok (Some a)) j
+      → Obeys s (Put a) Done t → Loading InRange code bs s₀ t j
+  loading_more bs s₀ s t at j a l r o =
       let word : word_of t ≡ word_of s ++ (a ∷ []) = put_word o.rule in
       let same = l.behind.1 in
-      let rule = subst (λ n. Rule lt n (word_of s) (Put a) Done (word_of t)) same o.rule in
+      let rule = subst (λ n. Rule n (word_of s) (Put a) Done (word_of t)) same o.rule in
       let longer : s.len ≤ t.len = omega (arith, ap length word, word_length s, word_length t, length_push (word_of s) a) in
       record {
         part = λ w h e. subst (λ u. Part InRange code bs j u w) (sym word) (part_more bs at j (word_of s) w a (l.part w h e) r).more;
@@ -147,8 +147,8 @@ module _ {L : Type 0} (kind : Kind) (InRange : L → Type 0) (letter : ℕ → O
       }
 
   -- or it was refused.
-  refused_as : {lt : L → L → Type 0} (capacity : ℕ) (w u : List L) (a : L) (rest v : List L) (answer : Answer L) (f : StripFault) → w ≡ u ++ (a ∷ rest) → Holds capacity u
-      → Rule lt capacity u (Put a) answer v → answer ≡ put_answer (Err f) → Overfull capacity w v f
+  refused_as : (capacity : ℕ) (w u : List L) (a : L) (rest v : List L) (answer : Answer L) (f : StripFault) → w ≡ u ++ (a ∷ rest) → Holds capacity u
+      → Rule capacity u (Put a) answer v → answer ≡ put_answer (Err f) → Overfull capacity w v f
   refused_as capacity w u a rest v answer (Full p) split holds (full over) e =
       let is : length v ≡ p = cc in subst (λ n. Overfull capacity w v (Full n)) is (too_long a rest split holds over)
   refused_as capacity w u a rest v answer (TooManyKinds p) split holds (crowded room not) e =
@@ -160,31 +160,28 @@ module _ {L : Type 0} (kind : Kind) (InRange : L → Type 0) (letter : ℕ → O
   refused_as capacity w u a rest v answer (Full p) split holds (added room admitted) e = absurd (let z : ◌≡◌ {A = ℕ} 0 1 = cc in omega arith)
   refused_as capacity w u a rest v answer (TooManyKinds p) split holds (added room admitted) e = absurd (let z : ◌≡◌ {A = ℕ} 0 1 = cc in omega arith)
   refused_as capacity w u a rest v answer Empty split holds (added room admitted) e = absurd (let z : ◌≡◌ {A = ℕ} 0 1 = cc in omega arith)
-  refused_as capacity w u a rest v answer (Scratch p) split holds (full over) e = absurd (let z : ◌≡◌ {A = ℕ} 31 41 = cc in omega arith)
-  refused_as capacity w u a rest v answer (Scratch p) split holds (crowded room not) e = absurd (let z : ◌≡◌ {A = ℕ} 32 41 = cc in omega arith)
-  refused_as capacity w u a rest v answer (Scratch p) split holds (added room admitted) e = absurd (let z : ◌≡◌ {A = ℕ} 0 1 = cc in omega arith)
 
   -- From the strip as it was before it was cleared.
-  cleared_behind : {lt : L → L → Type 0} (s s₀ t : Strip L) → Obeys lt s Clear Done s₀ → Behind s₀ t → Behind s t
+  cleared_behind : (s s₀ t : Strip L) → Obeys s Clear Done s₀ → Behind s₀ t → Behind s t
   cleared_behind s s₀ t o (rest, capacity) = (rest ∙ ap (drop t.len) (clear_memory s s₀ o), capacity ∙ o.capacity)
 
-  pub loaded_end : {lt : L → L → Type 0} (bs : List ℕ) (s s₀ t : Strip L) (at j : ℕ) → Obeys lt s Clear Done s₀ → Loading InRange code bs s₀ t at → LetterRead kind InRange code bs at (Ok None) j
-      → (w : List L) → All InRange w → bs ≡ encode_codes (map code w) → Loaded s w (Ok tt) t
+  pub loaded_end : (bs : List ℕ) (s s₀ t : Strip L) (at j : ℕ) → Obeys s Clear Done s₀ → Loading InRange code bs s₀ t at → LetterRead kind InRange code bs at (Ok None) j
+      → (w : List L) → AllByRecursion InRange w → bs ≡ encode_codes (map code w) → Loaded s w (Ok tt) t
   loaded_end bs s s₀ t at j o l r w h e =
       let all = part_end bs at j (word_of t) w (l.part w h e) r in
       (all, subst (λ n. Holds n w) o.capacity (subst (Holds (capacity_of s₀)) all l.holds), cleared_behind s s₀ t o l.behind)
 
-  pub loaded_refused : {lt : L → L → Type 0} (bs : List ℕ) (s s₀ t t' : Strip L) (at j : ℕ) (a : L) (f : StripFault) → Obeys lt s Clear Done s₀ → Loading InRange code bs s₀ t at
-      → LetterRead kind InRange code bs at (Ok (Some a)) j → Obeys lt t (Put a) (put_answer (Err f)) t'
-      → (w : List L) → All InRange w → bs ≡ encode_codes (map code w) → Loaded s w (Err f) t'
-  loaded_refused {lt} bs s s₀ t t' at j a f o l r put w h e =
+  pub loaded_refused : (bs : List ℕ) (s s₀ t t' : Strip L) (at j : ℕ) (a : L) (f : StripFault) → Obeys s Clear Done s₀ → Loading InRange code bs s₀ t at
+      → LetterRead kind InRange code bs at (Ok (Some a)) j → Obeys t (Put a) (put_answer (Err f)) t'
+      → (w : List L) → AllByRecursion InRange w → bs ≡ encode_codes (map code w) → Loaded s w (Err f) t'
+  loaded_refused bs s s₀ t t' at j a f o l r put w h e =
       let more = part_more bs at j (word_of t) w a (l.part w h e) r in
       let same = l.behind.1 ∙ o.capacity in
       let word = refused_word put.rule in
       let shorter : t.len ≤ t'.len = omega (arith, ap length word, word_length t, word_length t') in
       let behind : Behind s₀ t' = (put.rest ∙ further t.len t'.len (memory_of t) (memory_of s₀) shorter l.behind.0, put.capacity ∙ l.behind.1) in (
         refused_as (capacity_of s) w (word_of t) a more.rest (word_of t') (put_answer (Err f)) f more.split (subst (λ n. Holds n (word_of t)) o.capacity l.holds)
-            (subst (λ n. Rule lt n (word_of t) (Put a) (put_answer (Err f)) (word_of t')) same put.rule) refl,
+            (subst (λ n. Rule n (word_of t) (Put a) (put_answer (Err f)) (word_of t')) same put.rule) refl,
         cleared_behind s s₀ t' o behind,
       )
 

@@ -1,7 +1,7 @@
 -- What a run keeps true from plate to plate, and how it ends.
 use Rattle.std.proofs.Common.{◌≡◌, ℕ, ◌+◌, ◌<◌, ◌≤◌, Bool, true, List, [], ◌∷◌, ◌++◌, map, length, is_ok, Some, None, Ok, Err, Option, Result, sym, refl, ap, ◌∙◌, subst, inl, inr, append_assoc, append-nil, arith}
 use Rattle.std.proofs.lemmas.List.{map_push, flat_map_more}
-use Rattle.std.specs.List.{AllByRecursion as All}
+use Rattle.std.specs.List.{AllByRecursion}
 use Rattle.letters.specs.declared.kind.Kind.{Kind}
 use Rattle.letters.specs.Kinds.{kind_number}
 use Rattle.strips.specs.declared.strip.Strip.{Strip}
@@ -17,7 +17,7 @@ use Rattle.pairs.specs.Plates.{Plate, entry_of, Given, Holds, Overfull, Loaded, 
 use Rattle.pairs.specs.Runs.{Line, Lines, no_plate, one_plate, next_plate, Begins, Ends, file_ends, record_refused, word_refused, BeganOf, began, RunOf, ran, Took, none_taken, one_taken, fault_line}
 use Rattle.pairs.specs.Steps.{Fresh, Standing, Advanced, PlatesAnswer}
 
-all_push : {A : Type 0} (P : A → Type 0) (xs : List A) (x : A) → All P xs → P x → All P (xs ++ (x ∷ []))
+all_push : {A : Type 0} (P : A → Type 0) (xs : List A) (x : A) → AllByRecursion P xs → P x → AllByRecursion P (xs ++ (x ∷ []))
 all_push P [] x h p = (p, tt)
 all_push P (y ∷ xs) x (h, hs) p = (h, all_push P xs x hs p)
 
@@ -58,7 +58,7 @@ module _ {L : Type 0} (lt : L → L → Type 0) (kind : Kind) (InRange : L → T
       record {
         stands = subst (λ s. Stands bs 0 s b.at) file (stands_append bs (encode_file kind es) (encode_entry e) 0 a.at b.at h.stands here);
         rising = subst (Rising kind 0) (sym more) (rising_push kind 0 es e h.rising (subst (λ n. Allowed kind n e) last given.allowed));
-        letters = all_push (λ p. All InRange p.word) ps q h.letters given.letters;
+        letters = all_push (λ p. AllByRecursion InRange p.word) ps q h.letters given.letters;
         held = all_push (λ p. Holds 400 p.word) ps q h.held holds;
       }
 
@@ -122,7 +122,7 @@ module _ {L S : Type 0} (lt : L → L → Type 0) (kind : Kind) (InRange : L →
         same_kind = ap (λ x. x.kind) given.after ∙ same;
         earlier_size = capacity ∙ size;
         later_size = size';
-        letters = subst (All InRange) (sym word) given.letters;
+        letters = subst (AllByRecursion InRange) (sym word) given.letters;
       }
 
   on_strip : (s t : Strip L) (w : List L) → capacity_of s ≡ 400 → Loaded s w (Ok tt) t → Holds 400 (word_of t)

@@ -1,6 +1,6 @@
 -- Plates with their words: how they stand in a file, and whether a word goes on a strip.
 use Rattle.std.specs.Prelude.{◌≡◌, ℕ, ◌<◌, ◌≤◌, ◌⊎◌, List, ◌∷◌, ◌++◌, map, length, drop, Some, None, Ok, Err, Option, Result, ◌≢◌}
-use Rattle.std.specs.List.{AllByRecursion as All}
+use Rattle.std.specs.List.{AllByRecursion}
 use Rattle.letters.specs.declared.kind.Kind.{Kind}
 use Rattle.strips.specs.declared.fault.StripFault.{StripFault}
 use Rattle.strips.specs.declared.fault.StripFault.TheVariants.{Full, TooManyKinds}
@@ -48,7 +48,7 @@ module _ {L : Type 0} (kind : Kind) (InRange : L → Type 0) (code : L → ℕ) 
   -- The plate p is the next record of the reader a, whose file is of the letters' kind; the reader b stands behind it.
   pub record Given (a : Reader) (p : Plate L) (b : Reader) : Type 0 where
     pub same_kind : a.kind ≡ kind
-    pub letters : All InRange p.word
+    pub letters : AllByRecursion InRange p.word
     pub allowed : Allowed kind a.last (entry_of code p)
     pub stands : Stands a.bytes.now a.at (encode_entry (entry_of code p)) b.at
     pub after : b ≡ record { bytes = a.bytes; kind = a.kind; at = b.at; last = p.number }

@@ -1,6 +1,6 @@
 -- A whole run over a word file: which lines it prints.
 use Rattle.std.specs.Prelude.{◌≡◌, ℕ, ◌<◌, ◌≤◌, Bool, true, false, ◌⊎◌, List, [], ◌∷◌, ◌++◌, map, length, Ok, Err, Result}
-use Rattle.std.specs.List.{flat_map, AllByRecursion as All}
+use Rattle.std.specs.List.{flat_map, AllByRecursion}
 use Rattle.letters.specs.declared.kind.Kind.{Kind}
 use Rattle.letters.specs.declared.kind.Kind.TheVariants.{Modes, Taps}
 use Rattle.letters.specs.Modes.{ModeNumber, mode_order}
@@ -42,15 +42,15 @@ module _ {L : Type 0} (lt : L → L → Type 0) (kind : Kind) (InRange : L → T
   pub record Begins (bs : List ℕ) (ps : List (Plate L)) (j : ℕ) : Type 0 where
     pub stands : Stands bs 0 (encode_file kind (map (entry_of code) ps)) j
     pub rising : Rising kind 0 (map (entry_of code) ps)
-    pub letters : All (λ p. All InRange p.word) ps
-    pub held : All (λ p. Holds 400 p.word) ps
+    pub letters : AllByRecursion (λ p. AllByRecursion InRange p.word) ps
+    pub held : AllByRecursion (λ p. Holds 400 p.word) ps
 
   -- How a run ends at the place j, after the plate `last`: no byte is left, and nothing more is printed; or the reader refuses
   -- the record there; or the record is that of a plate whose word does not go on a strip of 400 letters.
   pub data Ends (bs : List ℕ) (last j : ℕ) : List (List ℕ) → Type 0 where
     file_ends : length bs ≤ j → Ends bs last j []
     record_refused : (fault : FileFault) → j < length bs → RecordFault kind bs last j fault → Ends bs last j (fault_line (File fault) ∷ [])
-    word_refused : (p : Plate L) (next : ℕ) (v : List L) (fault : StripFault) → All InRange p.word → Allowed kind last (entry_of code p)
+    word_refused : (p : Plate L) (next : ℕ) (v : List L) (fault : StripFault) → AllByRecursion InRange p.word → Allowed kind last (entry_of code p)
         → Stands bs j (encode_entry (entry_of code p)) next → Overfull 400 p.word v fault → Ends bs last j (fault_line (Record fault j) ∷ [])
 
   -- The first lines of a run,
@@ -68,7 +68,7 @@ pub data Began (bs : List ℕ) : List (List ℕ) → Type 0 where
   some_modes : (ls : List (List ℕ)) → BeganOf (Before mode_order) Modes (λ m. ModeNumber m.value) (λ m. m.value) bs ls → Began bs ls
   some_taps : (ls : List (List ℕ)) → BeganOf (Before tap_order) Taps (λ t. TapNumbers t.zone t.step) tap_code bs ls → Began bs ls
 
--- All lines that it prints: the refusal of a file that is too long, or whose kind is refused, or those of a run.
+-- AllByRecursion lines that it prints: the refusal of a file that is too long, or whose kind is refused, or those of a run.
 pub data Printed (bs : List ℕ) : List (List ℕ) → Type 0 where
   too_long : 16384 < length bs → Printed bs (fault_line FileTooLong ∷ [])
   not_opened : (fault : FileFault) → length bs ≤ 16384 → Opened bs (Err fault) → Printed bs (fault_line (File fault) ∷ [])

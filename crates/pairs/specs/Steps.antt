@@ -1,6 +1,6 @@
 -- One step of a run: the next plate is read and told apart from the one before.
 use Rattle.std.specs.Prelude.{◌≡◌, ℕ, ◌≤◌, Bool, true, false, ◌⊎◌, List, [], ◌∷◌, ◌++◌, length, Some, None, Ok, Err, Option, Result}
-use Rattle.std.specs.List.{AllByRecursion as All}
+use Rattle.std.specs.List.{AllByRecursion}
 use Rattle.letters.specs.declared.kind.Kind.{Kind}
 use Rattle.letters.specs.Kinds.{kind_number}
 use Rattle.strips.specs.declared.strip.Strip.{Strip}
@@ -57,7 +57,7 @@ pub record Standing {L : Type 0} (kind : Kind) (InRange : L → Type 0) (a : Rea
   pub same_kind : a.kind ≡ kind
   pub earlier_size : capacity_of earlier ≡ 400
   pub later_size : capacity_of later ≡ 400
-  pub letters : All InRange (word_of earlier)
+  pub letters : AllByRecursion InRange (word_of earlier)
 
 module _ {L S : Type 0} (lt : L → L → Type 0) (kind : Kind) (InRange : L → Type 0) (code : L → ℕ) (took : S → List ℕ → Bool → S → Type 0) where
   -- What a step of a run with a sink answers: the plate that was read, whose line was taken; none where the run ends, with its

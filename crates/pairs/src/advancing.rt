@@ -17,7 +17,7 @@ use strips::Strip;
 /// Prints the line of a refusal.
 pub(crate) fn print_fault<S: Sink>(fault: RunFault, line: &mut [u8], sink: &mut S) -> io::Result<()>
     requires { 4096 ≤ length line.old }
-    ensures { took sink.old (fault_line fault) (is_ok result) sink.new }
+    ensures { S.took sink.old (fault_line fault) (is_ok result) sink.new }
 {
     let Ok(length) = write_refusal(fault.number(), fault.place(), line) else {
         unreachable()
@@ -39,7 +39,7 @@ pub(crate) fn advance<L: CodedLetter, S: Sink>(
 ) -> io::Result<Option<u32>>
     requires room { Room row.old scratch.old line.old }
     requires standing { Standing L.kind L.InRange reader.old earlier.now later.old }
-    ensures answer { Advanced (Before L.OrderedLetter.order) L.kind L.InRange L.code took reader.old (record { number = plate; word = word_of earlier.now }) later.old sink.old result reader.new later.new sink.new }
+    ensures answer { Advanced (Before L.OrderedLetter.order) L.kind L.InRange L.code S.took reader.old (record { number = plate; word = word_of earlier.now }) later.old sink.old result reader.new later.new sink.new }
     ensures lender { later.new.letters.ghost_name ≡ later.old.letters.ghost_name }
 {
     let stepped = match step(reader, plate, earlier, later, row, scratch, line) {

@@ -31,7 +31,7 @@ fn print_plates<L: CodedLetter, S: Sink>(
     requires left_size { capacity_of left.old ≡ 400 }
     requires right_size { capacity_of right.old ≡ 400 }
     requires room { Room row.old scratch.old line.old }
-    ensures { PlatesAnswer (Before L.OrderedLetter.order) L.kind L.InRange L.code took reader.old.bytes.now sink.old result sink.new }
+    ensures { PlatesAnswer (Before L.OrderedLetter.order) L.kind L.InRange L.code S.took reader.old.bytes.now sink.old result sink.new }
 {
     let first = match read_plate(reader, left) {
         Ok(first) => first,
@@ -73,7 +73,7 @@ fn print_kind<L: CodedLetter, S: Sink>(
 ) -> io::Result<()>
     requires fresh { Fresh L.kind reader.old }
     requires memory { length letters.old ≡ 1201 }
-    ensures { PlatesAnswer (Before L.OrderedLetter.order) L.kind L.InRange L.code took reader.old.bytes.now sink.old result sink.new }
+    ensures { PlatesAnswer (Before L.OrderedLetter.order) L.kind L.InRange L.code S.took reader.old.bytes.now sink.old result sink.new }
 {
     let (left, rest) = letters.split_at_mut(STRIP);
     let (right, row) = rest.split_at_mut(STRIP);
@@ -95,7 +95,7 @@ fn print_kind<L: CodedLetter, S: Sink>(
 /// Prints the lines of the word file in `input`: for each plate and the next, how they are told apart; and
 /// last the first refusal, if there is one.
 pub fn print_lines<S: Sink>(input: &[u8], sink: &mut S) -> io::Result<()>
-    ensures { RunAnswer took input.now sink.old result sink.new }
+    ensures { RunAnswer S.took input.now sink.old result sink.new }
 {
     if input.len() > LONGEST_FILE {
         return print_fault(RunFault::FileTooLong, &mut [0; LINE], sink);

@@ -4,14 +4,14 @@ use Rattle.pairs.proofs.Putting.{code_small}
 use Rattle.pairs.proofs.Printing.{advanced_line, unprinted_line, advanced_fault, unprinted_fault, advanced_end}
 use Rattle.pairs.proofs.advancing.advance.Goals as goal
 
-pub returns-in_err-print_fault : goal.returns-in_err-print_fault
-returns-in_err-print_fault g c =
+pub returns-in_err-print_fault-in-Err : goal.returns-in_err-print_fault-in-Err
+returns-in_err-print_fault-in-Err g c =
     let p = err_from_is_err_and c.from_residual.result c.from_residual.ensures.1 in
     record {
       answer = rw p.1
           (unprinted_fault _ _ _ _ (code_small _ _ _ _ g.met.L.CodedLetter.bounded g.met.L.CodedLetter.decodes g.met.L.CodedLetter.encodes) g.S.Sink.took _ _ _ _ _ _ c.args.row.now
           c.step.new.row c.args.scratch.now c.step.new.scratch c.args.line.now c.step.new.line c.args.sink.now c.print_fault.new.sink c.requires.room c.requires.standing (omega arith) c.in-Err.fault tt
-          c.in-Err.ensures.answer c.in_err-print_fault.ensures);
+          c.in-Err.ensures.answer c.in_err-print_fault-in-Err.ensures);
       lender = c.step.ensures.lender;
     }
 
@@ -19,7 +19,7 @@ pub returns-in-Err : goal.returns-in-Err
 returns-in-Err g c = record {
   answer = advanced_fault _ _ _ _ (code_small _ _ _ _ g.met.L.CodedLetter.bounded g.met.L.CodedLetter.decodes g.met.L.CodedLetter.encodes) g.S.Sink.took _ _ _ _ _ _ c.args.row.now
       c.step.new.row c.args.scratch.now c.step.new.scratch c.args.line.now c.step.new.line c.args.sink.now c.print_fault.new.sink c.requires.room c.requires.standing (omega arith)
-      c.in-Err.fault c.in-Err.ensures.answer c.in_ok-print_fault.ensures;
+      c.in-Err.fault c.in-Err.ensures.answer c.in_ok-print_fault-in-Err.ensures;
   lender = c.step.ensures.lender;
 }
 
