@@ -4,6 +4,7 @@
 //! The folder that it is run in has a folder for each table, with a file `index` that has a name to a line,
 //! and for each NAME the bytes of a word file as hexadecimal digits, `NAME.hex`, and the text that is
 //! expected, `NAME.list` or `NAME.out`.
+#![tactic(auto)]
 
 use files::list;
 use pairs::text_of;

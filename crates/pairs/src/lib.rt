@@ -1,4 +1,5 @@
 //! Each plate of a word file and the next: the lines that tell them apart, one by one and as a whole run.
+#![tactic(auto)]
 
 mod advancing;
 mod comparing;

@@ -1,5 +1,6 @@
 //! `rows`: reads a word file from standard input and prints, for each plate and the next, by which
 //! shortest row of letters they are told apart.
+#![tactic(auto)]
 
 use pairs::{LONGEST_FILE, Sink, print_lines};
 use std::io;
