@@ -1,3 +1,5 @@
+-- Taps keep the third order rule: 'not after' is 'in an earlier zone, or in the same zone and of no higher step', and that goes
+-- on from tap to tap. No contract cites this; it stands here since an impl's laws can be answered only from specs/.
 use Rattle.std.specs.Prelude.{◌≡◌, ◌<◌, true, ◌⊎◌, ◌≤ℤ◌}
 use Rattle.std.proofs.Common.{arith}
 use Rattle.std.proofs.lemmas.Int.{ints}

@@ -1,4 +1,4 @@
-use Rattle.std.proofs.Common.{Ok, Err, refl, arith}
+use Rattle.std.proofs.Common.{Ok, Err, refl, arith, rules}
 use Rattle.files.specs.declared.number.NumberFault.TheVariants.{Missing, Padded, TooLong}
 use Rattle.files.proofs.Encoding.{number_read}
 use Rattle.files.proofs.Scanning.{scan_fits, scan_missing, scan_padded, scan_more, scan_last, scan_long}
@@ -24,7 +24,7 @@ returns-then-byte-lt128 c =
 
 pub loop-group-preserved : goal.loop-group-preserved
 loop-group-preserved c =
-    scan_more _ _ _ _ _ c.loop-group.invariant (omega arith) _ (omega arith) refl (omega arith) (omega arith) c.else-group-eq0.either
+    scan_more _ _ _ _ _ c.loop-group.invariant (omega arith) _ (omega arith) refl (omega arith) (omega arith) (search rules)
 
 pub returns : goal.returns
 returns c =
