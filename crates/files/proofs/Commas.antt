@@ -9,7 +9,7 @@ use Rattle.std.proofs.lemmas.Bool.Decides.{Decides-eqb, not_from_Decides}
 use Rattle.std.specs.List.{between}
 use Rattle.words.specs.declared.told.Side.{Side}
 use Rattle.words.specs.declared.told.Side.TheVariants.{Left, Right}
-use Rattle.files.specs.Line.{side_text, comma_text, row_text, line_text}
+use Rattle.files.specs.Line.{text_of_side, comma_text, row_text, line_text}
 use Rattle.files.specs.Spelling.{spell}
 use Rattle.files.proofs.Appending.{decimal_long}
 
@@ -19,17 +19,17 @@ comma_append (c ∷ cs) ds = ap (λ x. (codes "," ++ decimal c) ++ x) (comma_app
 
 -- How long the parts of a line are.
 pub row_length : (side : Side) (c : ℕ) (cs : List ℕ)
-    → length (row_text side (c ∷ cs)) ≡ 1 + (length (decimal (length cs)) + (length (side_text side) + (length (decimal c) + (length (comma_text cs) + 1))))
+    → length (row_text side (c ∷ cs)) ≡ 1 + (length (decimal (length cs)) + (length (text_of_side side) + (length (decimal c) + (length (comma_text cs) + 1))))
 row_length side c cs =
     omega (
       arith,
-      length-append (decimal (length cs)) (side_text side ++ (decimal c ++ (comma_text cs ++ codes "\n"))),
-      length-append (side_text side) (decimal c ++ (comma_text cs ++ codes "\n")),
+      length-append (decimal (length cs)) (text_of_side side ++ (decimal c ++ (comma_text cs ++ codes "\n"))),
+      length-append (text_of_side side) (decimal c ++ (comma_text cs ++ codes "\n")),
       length-append (decimal c) (comma_text cs ++ codes "\n"),
       length-append (comma_text cs) (codes "\n"),
     )
 
-side_length : (side : Side) → length (side_text side) ≡ 3
+side_length : (side : Side) → length (text_of_side side) ≡ 3
 side_length Left = refl
 side_length Right = refl
 

@@ -11,9 +11,9 @@ abbrev pub write_fault : WriteFault → ℕ × ℕ
 write_fault (NoRoom place) = (51, place)
 
 -- Which of the two plates shows the row, with a space before and behind.
-abbrev pub side_text : Side → List ℕ
-side_text Left = codes " L "
-side_text Right = codes " R "
+abbrev pub text_of_side : Side → List ℕ
+text_of_side Left = codes " L "
+text_of_side Right = codes " R "
 
 -- Codes, a comma before each.
 abbrev pub comma_text : List ℕ → List ℕ
@@ -24,7 +24,7 @@ comma_text cs = flat_map (λ c. codes "," ++ decimal c) cs
 abbrev pub row_text : Side → List ℕ → List ℕ
 row_text side [] = codes " = - -\n"
 row_text side (c ∷ cs) =
-    codes " " ++ (decimal (length cs) ++ (side_text side ++ (decimal c ++ (comma_text cs ++ codes "\n"))))
+    codes " " ++ (decimal (length cs) ++ (text_of_side side ++ (decimal c ++ (comma_text cs ++ codes "\n"))))
 
 -- The line: both plates and the row.
 abbrev pub line_text : ℕ → ℕ → Side → List ℕ → List ℕ

@@ -1,7 +1,7 @@
 //! The line that tells two plates apart, written into lent bytes.
 
 ghost use Rattle.std.specs.Prelude.{◌≡◌, ◌+◌, ◌<◌, ◌≤◌, ◌∷◌, map, length, decimal, MatchBool};
-ghost use Rattle.files.specs.Line.{write_fault, side_text, comma_text, row_text, line_text, refusal_text, Wrote};
+ghost use Rattle.files.specs.Line.{write_fault, text_of_side, comma_text, row_text, line_text, refusal_text, Wrote};
 ghost use Rattle.files.specs.Steps.{Appends, Fitting};
 
 use crate::spelling::{put_spelled, spelled_len};
@@ -83,7 +83,7 @@ fn put_commas<L: CodedLetter>(out: &mut [u8], at: usize, row: &[L]) -> usize
 
 /// The side as it stands in a line.
 fn side_text(side: Side) -> &'static [u8]
-    ensures { result.now ≡ side_text side }
+    ensures { result.now ≡ text_of_side side }
 {
     match side {
         Side::Left => b" L ",

@@ -8,7 +8,7 @@ use Rattle.words.specs.Words.{Sub, done, skip, keep}
 use Rattle.words.specs.Separating.{TellsOn}
 use Rattle.files.specs.declared.line.WriteFault.{WriteFault}
 use Rattle.files.specs.declared.line.WriteFault.TheVariants.{NoRoom}
-use Rattle.files.specs.Line.{side_text, comma_text, row_text, line_text, refusal_text, Wrote}
+use Rattle.files.specs.Line.{text_of_side, comma_text, row_text, line_text, refusal_text, Wrote}
 
 -- Numbers in decimal.
 plate_short : (n : ℕ) → n < 2 ^ 32 → length (decimal n) ≤ 10
@@ -34,7 +34,7 @@ refusal_short number place p q =
       word_short place q,
     )
 
-side_length : (side : Side) → length (side_text side) ≡ 3
+side_length : (side : Side) → length (text_of_side side) ≡ 3
 side_length Left = refl
 side_length Right = refl
 
@@ -48,8 +48,8 @@ row_short side [] few h = omega arith
 row_short side (c ∷ cs) few (h, hs) =
     omega (
       arith,
-      length-append (decimal (length cs)) (side_text side ++ (decimal c ++ (comma_text cs ++ codes "\n"))),
-      length-append (side_text side) (decimal c ++ (comma_text cs ++ codes "\n")),
+      length-append (decimal (length cs)) (text_of_side side ++ (decimal c ++ (comma_text cs ++ codes "\n"))),
+      length-append (text_of_side side) (decimal c ++ (comma_text cs ++ codes "\n")),
       length-append (decimal c) (comma_text cs ++ codes "\n"),
       length-append (comma_text cs) (codes "\n"),
       side_length side,

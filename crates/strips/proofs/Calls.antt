@@ -1,7 +1,7 @@
 -- Each call, as its code does it, obeys the rule.
 use Rattle.std.proofs.Common.{◌≡◌, ℕ, ◌+◌, ◌<◌, ◌≤◌, min, List, [], ◌∷◌, ◌++◌, length, get_or, take, drop, set, sym, refl, ap, ◌∙◌, subst, inl, inr, arith, length-set}
 use mathlib.Core.Logic.{∥∥₁_map}
-use Rattle.std.proofs.lemmas.List.{take-take, take_more, take_more_set, length-take-le, drop-set-lt}
+use Rattle.std.proofs.lemmas.List.{take-take, length-take, take_more, take_more_set, length-take-le, drop-set-lt}
 use Rattle.strips.specs.declared.strip.Strip.{Strip}
 use Rattle.strips.specs.Words.{AtMost}
 use Rattle.strips.specs.Rule.{Call, Put, Take, Clear, Answer, Done, Taken, Refused, Admits, Rule, full, crowded, added, empty, removed, cleared}
@@ -12,6 +12,10 @@ module _ {A : Type 0} where
   -- The different letters stay few.
   pub few_none : ∥ AtMost {A = A} 64 [] ∥₁
   few_none = ∣ at_most_none 64 ∣₁
+
+  -- No more than one letter.
+  pub few_one : (n : ℕ) (w : List A) → n ≤ 1 → ∥ AtMost 64 (take n w) ∥₁
+  few_one n w short = ∣ (take n w, simp length-take (omega arith), λ a here. here) ∣₁
 
   pub few_added : (w : List A) (a : A) → Admits a w → ∥ AtMost 64 w ∥₁ → ∥ AtMost 64 (w ++ (a ∷ [])) ∥₁
   few_added w a (inl here) few = ∥∥₁_map few (at_most_same 64 w a here)

@@ -1,10 +1,11 @@
-use Rattle.std.proofs.Common.{refl, arith}
-use Rattle.strips.proofs.Calls.{few_none}
+use Rattle.std.proofs.Common.{refl, arith, rules}
+use Rattle.strips.proofs.Calls.{few_none, few_one}
 use Rattle.strips.proofs.OneOutcome.{rule_is_one}
 use Rattle.strips.proofs.strip.Strip.open.Goals as goal
 
+-- The search has a lemma for one letter too: so a wrong length is refused for what `open` promises.
 pub invariant_of-result : goal.invariant_of-result
-invariant_of-result g c = record { fits = omega arith; few = few_none }
+invariant_of-result g c = record { fits = omega arith; few = search (rules, few_none, few_one) }
 
 pub returns : goal.returns
 returns g c = record { word = refl; memory = refl; lender = refl; law = rule_is_one g.row.L.Denot }
