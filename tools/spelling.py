@@ -29,13 +29,13 @@ def snake(word):
     return re.sub(r'(?<=[a-z0-9])[A-Z]', lambda m: '_' + m.group(0).lower(), word)
 
 
-# Lemmas that would have the name of a definition.
-LEMMAS = {'line-text': 'line_text_lem', 'number-fault': 'number_fault_lem', 'word-text': 'word_text_lem'}
+# Lemmas that would have the name of a definition, and a definition that would have that of a function.
+APART = {'line-text': 'line_text_lem', 'number-fault': 'number_fault_lem', 'word-text': 'word_text_lem', 'sideText': 'text_of_side'}
 
 
 def respelled(name):
-    if name in LEMMAS:
-        return LEMMAS[name]
+    if name in APART:
+        return APART[name]
     parts = [snake(p) for p in name.split('-')]
     text = parts[0]
     for before, part in zip(parts, parts[1:]):
@@ -83,7 +83,7 @@ def fields(lines):
                 inside = False
 
 
-def rewrite(line, names, own_fields, kept):
+def rewrite(line, names, own_fields, kept, steps):
     """One line with its names respelled, comments too; strings stay."""
     out = []
     for i, piece in enumerate(re.split(r'("(?:[^"\\]|\\.)*")', line)):
@@ -95,19 +95,19 @@ def rewrite(line, names, own_fields, kept):
             done += piece[at:m.start()]
             at = m.end()
             word = m.group(0)
-            if word in names and word not in kept and not made(piece, m.start(), word, own_fields):
+            if word in names and word not in kept and not made(piece, m.start(), word, own_fields, steps):
                 word = names[word]
             done += word
         out.append(done + piece[at:])
     return ''.join(out)
 
 
-def made(piece, start, word, own_fields):
-    """Is the word at this place a name that Rattle makes: a step or a goal, behind a dot?"""
+def made(piece, start, word, own_fields, steps):
+    """Is the word at this place a name that Rattle makes, behind a dot: a step, in a file of answers, or a goal?"""
     if start == 0 or piece[start - 1] != '.':
         return False
     owner = re.search(r"[^\s(){},;]*$", piece[:start - 1]).group(0)
-    return owner in ('c', 'w', 'l', 'goal', 'need') or word not in own_fields
+    return steps and owner in ('c', 'w', 'l', 'goal', 'need') or word not in own_fields
 
 
 def main():
@@ -138,13 +138,13 @@ def main():
             sys.exit(f'{p}: falls together with a name of std: {sorted(both)}')
     for p in antt:
         kept = goals(p, texts[p])
-        new = [rewrite(line, names, own_fields, kept) for line in texts[p]]
+        new = [rewrite(line, names, own_fields, kept, is_answers(p)) for line in texts[p]]
         if new != texts[p]:
             open(p, 'w', encoding='utf-8').write('\n'.join(new))
     # In source only names in camel case can be meant, but for ghost lines: elsewhere a dash is a minus.
     camel = {n: m for n, m in names.items() if '-' not in n}
     for p in source:
-        new = [rewrite(line, names if line.lstrip().startswith('ghost ') else camel, own_fields, set()) for line in texts[p]]
+        new = [rewrite(line, names if line.lstrip().startswith('ghost ') else camel, own_fields, set(), False) for line in texts[p]]
         if new != texts[p]:
             open(p, 'w', encoding='utf-8').write('\n'.join(new))
     for n in sorted(names):
