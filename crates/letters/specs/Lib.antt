@@ -1,5 +1,4 @@
-pub mod Order
 pub mod Modes
 pub mod Taps
 pub mod Kinds
-pub mod TapOrderedLemmas
+pub mod Orders

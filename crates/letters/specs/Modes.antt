@@ -1,8 +1,8 @@
 -- Modes: a number from 1 to 24, ordered by size, whose code is itself.
 use Rattle.std.specs.Prelude.{ℕ, ◌≤◌, cond, ◌&&◌, Some, None, Option, nat_le}
 use Rattle.std.specs.declared.cmp.Ordering.{Ordering}
+use Rattle.std.specs.Ordering.{nat_cmp}
 use Rattle.letters.specs.declared.mode.Mode.{Mode}
-use Rattle.letters.specs.Order.{by_size}
 
 -- A number that a mode can have.
 abbrev pub ModeNumber : ℕ → Type 0
@@ -14,4 +14,4 @@ mode_of n = cond (nat_le 1 n && nat_le n 24) (Some (record { value = n })) None
 
 -- By size.
 abbrev pub mode_order : Mode → Mode → Ordering
-mode_order a b = by_size a.value b.value
+mode_order a b = nat_cmp a.value b.value

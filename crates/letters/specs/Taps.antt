@@ -2,9 +2,8 @@
 use Rattle.std.specs.Prelude.{ℕ, ◌+◌, ◌-◌, ◌*◌, ◌/◌, ◌%◌, ◌<◌, ◌≤◌, cond, ◌&&◌, ℤ, pos, negsuc, ◌-ℤ◌, ◌≤ℤ◌, Some, None, Option, nat_le}
 use Rattle.std.specs.declared.cmp.Ordering.{Ordering}
 use Rattle.std.specs.Int.Signed.{le_z}
-use Rattle.std.specs.Ordering.{ordering_then}
+use Rattle.std.specs.Ordering.{int_cmp, nat_cmp, ordering_then}
 use Rattle.letters.specs.declared.tap.Tap.{Tap}
-use Rattle.letters.specs.Order.{by_size, by_signed}
 
 -- A zone and a step that a tap can have together (`negsuc 119` is -120).
 abbrev pub TapNumbers : ℕ → ℤ → Type 0
@@ -34,4 +33,4 @@ tap_of n = tap_at (n / 241 + 1) (pos (n % 241) -ℤ pos 120)
 
 -- By zone, then by step.
 abbrev pub tap_order : Tap → Tap → Ordering
-tap_order a b = ordering_then (by_size a.zone b.zone) (by_signed a.step b.step)
+tap_order a b = ordering_then (nat_cmp a.zone b.zone) (int_cmp a.step b.step)

@@ -1,7 +1,7 @@
 //! The kinds of letters that have codes, as one value: what a word file says first.
 
 ghost use Rattle.std.specs.Prelude.{◌≡◌, Some, Decides};
-ghost use Rattle.letters.specs.Kinds.{kind_number, kind_of, kind_name, IsCode};
+ghost use Rattle.letters.specs.Kinds.{kind_number, kind_name, IsCode, KindOf};
 
 use crate::coded::CodedLetter;
 use crate::mode::Mode;
@@ -15,28 +15,37 @@ pub enum Kind {
     Taps,
 }
 
-impl Kind {
-    /// The kind that this number stands for; none for any other number.
-    pub fn from_number(number: u32) -> Option<Kind>
-        ensures { result ≡ kind_of number }
-    {
+/// A number that stands for no kind.
+#[derive(Clone, Copy, PartialEq, Eq, Debug)]
+pub struct UnknownKind(pub u32);
+
+impl TryFrom<u32> for Kind {
+    type Error = UnknownKind;
+
+    ghost try_from_gives = { KindOf };
+
+    fn try_from(number: u32) -> Result<Kind, UnknownKind> {
         match number {
-            1 => Some(Kind::Modes),
-            2 => Some(Kind::Taps),
-            _ => None,
+            1 => Ok(Kind::Modes),
+            2 => Ok(Kind::Taps),
+            _ => Err(UnknownKind(number)),
         }
     }
+}
 
-    /// The number that stands for this kind.
-    pub fn number(self) -> u8
-        ensures { result ≡ kind_number self }
-    {
-        match self {
+/// The number that stands for a kind.
+impl From<Kind> for u8 {
+    ghost from_gives = { λ kind number. number ≡ kind_number kind };
+
+    fn from(kind: Kind) -> u8 {
+        match kind {
             Kind::Modes => 1,
             Kind::Taps => 2,
         }
     }
+}
 
+impl Kind {
     /// Is this number a code of the kind?
     pub fn is_code(self, number: u32) -> bool
         ensures { Decides result (IsCode self number) }

@@ -11,7 +11,7 @@ mod ordered;
 mod tap;
 
 pub use coded::CodedLetter;
-pub use kind::Kind;
+pub use kind::{Kind, UnknownKind};
 pub use mode::Mode;
 pub use ordered::OrderedLetter;
 pub use tap::Tap;

@@ -25,11 +25,7 @@ impl Mode {
     pub fn new(value: u8) -> Option<Mode>
         ensures { result ≡ mode_of value }
     {
-        if is_mode_number(value) {
-            Some(Mode { value })
-        } else {
-            None
-        }
+        is_mode_number(value).then_some(Mode { value })
     }
 
     pub fn value(self) -> u8
@@ -42,7 +38,7 @@ impl Mode {
 fn is_mode_number(value: u8) -> bool
     ensures { Decides result (ModeNumber value) }
 {
-    1 <= value && value <= LAST
+    (1..=LAST).contains(&value)
 }
 
 impl fmt::Display for Mode {
@@ -66,7 +62,7 @@ impl OrderedLetter for Mode {
     ghost onward = { Prim.search rules };
 
     fn compare(self, other: Mode) -> Ordering {
-        Ord::cmp(&self.value, &other.value)
+        self.cmp(&other)
     }
 }
 
@@ -94,10 +90,7 @@ impl CodedLetter for Mode {
     }
 
     fn from_code(number: u32) -> Option<Mode> {
-        match u8::try_from(number) {
-            Ok(value) => Mode::new(value),
-            Err(_) => None,
-        }
+        u8::try_from(number).ok().and_then(Mode::new)
     }
 
     fn code(self) -> u32 {

@@ -4,7 +4,8 @@ ghost use Rattle.std.specs.Prelude.{◌≡◌, ◌++◌, Some, codes, decimal, D
 ghost use Rattle.std.specs.Fmt.{signed_decimal};
 ghost use Rattle.letters.specs.declared.kind.Kind.TheVariants.{Taps};
 ghost use Rattle.letters.specs.Taps.{TapNumbers, tap_at, tap_code, tap_of, tap_order};
-ghost use Rattle.letters.specs.TapOrderedLemmas.{from_order, to_order, goes_on};
+ghost use Rattle.letters.specs.Orders.{not_after_chains};
+ghost use Rattle.std.specs.Cmp.{int_cmp_total, nat_cmp_total, on_total, then_total};
 ghost use Rattle.std.proofs.Common.{rules};
 
 use crate::coded::CodedLetter;
@@ -34,11 +35,7 @@ impl Tap {
     pub fn new(zone: u8, step: i8) -> Option<Tap>
         ensures { result ≡ tap_at zone step }
     {
-        if are_tap_numbers(zone, step) {
-            Some(Tap { zone, step })
-        } else {
-            None
-        }
+        are_tap_numbers(zone, step).then_some(Tap { zone, step })
     }
 
     pub fn zone(self) -> u8
@@ -57,7 +54,7 @@ impl Tap {
 fn are_tap_numbers(zone: u8, step: i8) -> bool
     ensures { Decides result (TapNumbers zone step) }
 {
-    1 <= zone && zone <= ZONES && -STEP_LIMIT <= step as i32 && step as i32 <= STEP_LIMIT
+    (1..=ZONES).contains(&zone) && (-STEP_LIMIT..=STEP_LIMIT).contains(&i32::from(step))
 }
 
 /// A tap shows as zone and step, as `12:-35`.
@@ -80,11 +77,10 @@ impl OrderedLetter for Tap {
 
     ghost flips = { Prim.search rules };
 
-    ghost onward = { λ a b c h k. to_order a c (goes_on a b c (from_order a b h) (from_order b c k)) };
+    ghost onward = { not_after_chains (then_total (on_total (λ t. t.zone) nat_cmp_total) (on_total (λ t. t.step) int_cmp_total)) };
 
     fn compare(self, other: Tap) -> Ordering {
-        let by_zone = self.zone.cmp(&other.zone);
-        by_zone.then(self.step.cmp(&other.step))
+        self.cmp(&other)
     }
 }
 
@@ -113,15 +109,13 @@ impl CodedLetter for Tap {
 
     fn from_code(number: u32) -> Option<Tap> {
         let step = (number % STEPS) as i32 - STEP_LIMIT;
-        match u8::try_from(number / STEPS + 1) {
-            Ok(zone) => Tap::new(zone, step as i8),
-            Err(_) => None,
-        }
+        let zone = u8::try_from(number / STEPS + 1).ok()?;
+        Tap::new(zone, step as i8)
     }
 
     fn code(self) -> u32 {
-        let zones_before = (self.zone as u32).saturating_sub(1);
-        let step_index = (self.step as i32 + STEP_LIMIT).max(0);
+        let zones_before = u32::from(self.zone).saturating_sub(1);
+        let step_index = (i32::from(self.step) + STEP_LIMIT).max(0);
         zones_before * STEPS + step_index as u32
     }
 }

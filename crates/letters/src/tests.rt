@@ -1,7 +1,7 @@
 //! Examples at the edges of the ranges.
 
 use crate::coded::CodedLetter;
-use crate::kind::Kind;
+use crate::kind::{Kind, UnknownKind};
 use crate::mode::Mode;
 use crate::ordered::OrderedLetter;
 use crate::tap::Tap;
@@ -59,11 +59,11 @@ fn letters_are_ordered(rt: HostRuntime) -> Result<(), Fail> {
 
 #[test]
 fn kinds_have_numbers(rt: HostRuntime) {
-    assert_eq!(rt; Kind::from_number(0), None);
-    assert_eq!(rt; Kind::from_number(1), Some(Kind::Modes));
-    assert_eq!(rt; Kind::from_number(2), Some(Kind::Taps));
-    assert_eq!(rt; Kind::from_number(3), None);
-    assert_eq!(rt; Kind::Taps.number(), Tap::kind().number());
+    assert_eq!(rt; Kind::try_from(0), Err(UnknownKind(0)));
+    assert_eq!(rt; Kind::try_from(1), Ok(Kind::Modes));
+    assert_eq!(rt; Kind::try_from(2), Ok(Kind::Taps));
+    assert_eq!(rt; Kind::try_from(3), Err(UnknownKind(3)));
+    assert_eq!(rt; u8::from(Kind::Taps), u8::from(Tap::kind()));
     assert!(rt; !Kind::Modes.is_code(25) && Kind::Taps.is_code(25));
 }
 
