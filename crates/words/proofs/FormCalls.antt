@@ -1,28 +1,24 @@
 -- From the steps to the form: what is left of a word, put in order, is the form of the word.
-use Rattle.std.proofs.Common.{◌≡◌, ℕ, suc, ◌-◌, ◌<◌, ◌≤◌, List, [], ◌∷◌, ◌++◌, length, get_or, take, drop, sym, refl, ap, ◌∙◌, append_assoc, arith}
+use Rattle.std.proofs.Common.{◌≡◌, ℕ, suc, ◌<◌, ◌≤◌, List, [], ◌∷◌, ◌++◌, length, get_or, take, drop, sym, refl, ap, ◌∙◌, append_assoc, arith}
 use native.Mathlib.Decide.{ℕ_discrete}
 use Rattle.std.specs.List.{slice_get}
 use Rattle.std.proofs.iter.runs.Lists.{same_Some, slice_get_within}
 use Rattle.std.proofs.lemmas.List.{length-take-le, get_or_at, take_at, drop_at}
 use Rattle.std.proofs.lemmas.Option.{slice_get-get_or}
 use Rattle.words.specs.Forms.{Formed}
-use Rattle.words.specs.Steps.{rights, lefts, Below, Spells, nothing, letter, Climbs, Kept, Thinned, Level}
-use Rattle.words.specs.Steps.{swapped, Exchanged, none, more, Reordered, InOrder}
+use Rattle.words.specs.Steps.{lefts, Below, Spells, nothing, letter, Climbs, Kept, Thinned, Level}
+use Rattle.words.specs.Steps.{Exchanged, none, more, Reordered, InOrder}
 use Rattle.words.specs.Words.{Order, IsForm}
 use Rattle.words.proofs.Exchanging.{Arranged, exchange_start, exchange_step, exchangeable_at, Sorted, sorted_by}
 use Rattle.words.proofs.Forms as forms
 use Rattle.words.proofs.Gathering.{climbs_above}
 use Rattle.words.proofs.LetterOrders.{numbers_order}
-use Rattle.words.proofs.Passing.{none_lean, lefts_length}
-use Rattle.words.proofs.Reordering.{swapped_split}
+use Rattle.words.proofs.Passing.{none_lean}
+use Rattle.words.proofs.Reordering.{swapped, swap_swapped, swapped_split}
 use Rattle.words.proofs.Spelling.{spells_length, spells_at, spells_below, form_letters}
 use Rattle.words.proofs.Subsequences.{length_around, length_end}
 
 -- ── Sizes ──
-
-rights_length : (w : List ℕ) → length (rights ℕ_discrete w) ≡ length w
-rights_length [] = refl
-rights_length (a ∷ w) = ap suc (rights_length w)
 
 -- strictly rising numbers below a bound are not more than that
 climbs_few : (bound : ℕ) (ns : List ℕ) → Climbs 0 ns → Below bound ns → length ns ≤ bound
@@ -37,15 +33,6 @@ module _ {A : Type 0} {lt : A → A → Type 0} {k : ℕ} {word : List A} {place
 
   pub thinned_few : length places ≤ length word
   thinned_few = climbs_few (length word) places h.lean.climbing thinned_below
-
-  pub ranks_length : length ranks ≡ length places
-  ranks_length = sym (spells_length h.lean.spelled)
-
-  pub before_length : length before ≡ length places
-  before_length = ap length h.coordinates ∙ lefts_length [] ranks ∙ ranks_length
-
-  pub behind_length : length behind ≡ length places
-  behind_length = ap length h.lean.coordinates ∙ rights_length ranks ∙ ranks_length
 
 -- ── Exchanges keep what is left of a word ──
 
@@ -63,7 +50,7 @@ arranged_swapped {k} {w} {L} {R} {f} i l p h = go (swapped_split i f l)
 arranged_exchanged : {k : ℕ} {w L R f g : List ℕ} → Exchanged (Level k L R) f g → Arranged ℕ_discrete k w L R f
     → Arranged ℕ_discrete k w L R g
 arranged_exchanged none h = h
-arranged_exchanged (more i p l x) h = arranged_swapped i l p (arranged_exchanged x h)
+arranged_exchanged (more {w = v} i p l x) h = rw (swap_swapped i v l) (arranged_swapped i l p (arranged_exchanged x h))
 
 -- numbers in order at these places are sorted
 in_order_sorted : {k : ℕ} {w L R f : List ℕ} → Arranged ℕ_discrete k w L R f → InOrder (Level k L R) (length f) f
@@ -103,26 +90,23 @@ spells_chosen {letters = letters} {numbers = numbers} h (letter {n = p} {a = r} 
 
 -- What is left of a word, gathered and put in order, is its form.
 pub formed : {A : Type 0} {lt : A → A → Type 0} (order : Order lt) {k : ℕ} {word : List A}
-    {places ranks before behind : List ℕ} {out : List A} (gathered : List A) {ranks' : List ℕ} {w : List A} (rest : List A)
+    {places ranks before behind : List ℕ} {out : List A} (gathered : List A) {ranks' : List ℕ} {w : List A}
     → Thinned lt k word places ranks before behind → length places ≤ length gathered
     → Spells word places (take (length places) gathered) → drop (length places) gathered ≡ drop (length places) out
-    → Reordered (Level k before behind) ranks (take (length places - 0) gathered) ranks' w
-    → InOrder (Level k before behind) (length ranks') ranks' → length w ≡ length (take (length places - 0) gathered)
-    → rest ≡ drop (length places - 0) gathered → Formed lt k word out (length places) (w ++ rest)
-formed order {places = places} gathered {ranks' = ranks'} {w = w} rest h l g e r s n t = record {
+    → Reordered (Level k before behind) ranks (take (length places) gathered) ranks' w
+    → InOrder (Level k before behind) (length ranks') ranks' → length w ≡ length (take (length places) gathered)
+    → Formed lt k word out (length places) (w ++ drop (length places) gathered)
+formed order {places = places} gathered {ranks' = ranks'} {w = w} h l g e r s n = record {
   shorter = thinned_few h;
   form =
-      rw (take_at w rest (length places) long)
+      rw (take_at w (drop (length places) gathered) (length places) long)
       (form_letters h.letters order h.rising h.spelled spelled
       (form_ranks h.lean h.coordinates r.exchanged s));
-  rest = drop_at w rest (length places) long ∙ t ∙ ap (λ m. drop m gathered) whole ∙ e;
+  rest = drop_at w (drop (length places) gathered) (length places) long ∙ e;
 }
   where
-    whole : length places - 0 ≡ length places
-    whole = omega arith
-
     long : length w ≡ length places
-    long = n ∙ ap (λ m. length (take m gathered)) whole ∙ length-take-le (length places) gathered l
+    long = n ∙ length-take-le (length places) gathered l
 
     spelled : Spells h.letters ranks' w
-    spelled = r.together h.letters (rw (sym whole) at (spells_chosen h.spelled h.lean.spelled g))
+    spelled = r.together h.letters (spells_chosen h.spelled h.lean.spelled g)

@@ -2,7 +2,7 @@
 use Rattle.std.proofs.Common.{◌≡◌, ℕ, zero, suc, ◌+◌, ◌-◌, ◌<◌, ◌≤◌, List, length, get_or, take, drop, set, Some, sym, refl, ap, ◌∙◌, arith}
 use Rattle.std.specs.List.{slice_get}
 use Rattle.std.proofs.iter.runs.Lists.{nth_drop}
-use Rattle.std.proofs.lemmas.List.{length-set, take_more, take_more_set, take_all, drop-set-lt, drop-drop}
+use Rattle.std.proofs.lemmas.List.{length-set, take_more, take_more_set, drop-set-lt, drop-drop}
 use Rattle.words.specs.Steps.{Spells, nothing, Climbs, top, step}
 use Rattle.words.proofs.Spelling.{spells_push}
 
@@ -13,6 +13,12 @@ climbs_above zero (step m h) l = omega arith
 climbs_above (suc i) (step m h) l = omega (arith, climbs_above i h (omega arith))
 
 module _ {A : Type 0} where
+  -- behind the place that is written nothing changes
+  pub rest_step : (old out : List A) (i : ℕ) (a : A) → drop i out ≡ drop i old
+      → drop (i + 1) (set out i a) ≡ drop (i + 1) old
+  rest_step old out i a h =
+      drop-set-lt (i + 1) out i a (omega arith) ∙ sym (drop-drop 1 i out) ∙ ap (drop 1) h ∙ drop-drop 1 i old
+
   -- The letters of the first `i` places are written; behind them nothing has changed.
   pub record Gathered (word : List A) (places : List ℕ) (old : List A) (i : ℕ) (out : List A) : Type 0 where
     pub long : length out ≡ length old
@@ -30,8 +36,7 @@ module _ {A : Type 0} where
     letters =
         rw (take_more places i 0 l, take_more_set out i a (omega (arith, h.long)))
         (spells_push (get_or places i 0) a h.letters e);
-    rest =
-        drop-set-lt (i + 1) out i a (omega arith) ∙ sym (drop-drop 1 i out) ∙ ap (drop 1) h.rest ∙ drop-drop 1 i old;
+    rest = rest_step old out i a h.rest;
   }
 
   -- what is still to be read has not changed
@@ -41,9 +46,3 @@ module _ {A : Type 0} where
       let e : i + (p - i) ≡ p = omega arith in
       ap (slice_get out) (sym e) ∙ sym (nth_drop i out (p - i)) ∙ ap (λ t. slice_get t (p - i)) h.rest ∙ nth_drop i word (p - i)
       ∙ ap (slice_get word) e
-
-  pub gathered_end : {word : List A} {places : List ℕ} {old out : List A} {i : ℕ} → Gathered word places old i out
-      → i ≡ length places
-      → Spells word places (take (length places) out) × (drop (length places) out ≡ drop (length places) old)
-  gathered_end {word} {places} {old} {out} {i} h e =
-      (rw (e, take_all (length places) places (omega arith)) at h.letters, rw e at h.rest)

@@ -7,10 +7,11 @@ use lib.Seq.{drop-length}
 use Rattle.words.specs.Words.{Sub, skip}
 use Rattle.words.specs.Steps.{Below}
 use Rattle.words.specs.Degrees.{after}
-use Rattle.words.specs.Reading.{Behind, absent, behind, Reads}
-use Rattle.words.specs.declared.reading.Reading.{Reading}
+use Rattle.words.specs.Reading.{Behind, absent, behind}
+use Rattle.words.specs.Reads.{Reads}
+use Rattle.words.specs.declared.reading.Reading.TheInside.{Inside}
 use Rattle.words.proofs.Subsequences.{length_around, not_sub_nil, strip_other, occurs_at, after_same, after_other, first_cut}
-use Rattle.words.proofs.Stacks.{get_or_zeros}
+use Rattle.words.proofs.Paths.{get_or_zeros}
 
 -- what follows a letter is shorter
 after_shorter : (x : ℕ) (w : List ℕ) → Sub (x ∷ []) w → length (after ℕ_discrete x w) < length w
@@ -42,24 +43,24 @@ behind_past w i x l ne (behind {j = j} h k o e) =
     omega (arith, after_shorter x (drop (suc i) w) p, ap length f, length-drop (suc i) w, length-drop (suc j) w) in
     behind later k p f
 
-pub behind_inside : {i x n : ℕ} {w : List ℕ} → Behind w i x n → n ≤ length w
-behind_inside (absent o) = omega arith
-behind_inside (behind h k o e) = k
-
 -- ── One place to the left ──
 
-pub reads_more : (w : List ℕ) (r r' : Reading) → r'.at + 1 ≡ r.at
-    → r'.heads.now ≡ set r.heads.now (get_or w r'.at 0) (r'.at + 1)
-    → r'.links.now ≡ set r.links.now r'.at (get_or r.heads.now (get_or w r'.at 0) 0)
-    → Reads w r → Reads w r'
-reads_more w r r' e h k s = record {
-  inside = omega (arith, s.inside);
-  letters = rw (h, length-set) s.letters;
-  room = rw (k, length-set) s.room;
-  heads = λ x. rw h (head x (ℕ_discrete x a));
-  links = λ j low high. rw k (link j low high (dec_lt i j));
+pub reads_more : (r r' : Inside) → r'.word.now ≡ r.word.now → r'.at + 1 ≡ r.at
+    → r'.heads.now ≡ set r.heads.now (get_or r.word.now r'.at 0) (r'.at + 1)
+    → r'.links.now ≡ set r.links.now r'.at (get_or r.heads.now (get_or r.word.now r'.at 0) 0)
+    → Reads r → Reads r'
+reads_more r r' same e h k s = record {
+  few = rw same s.few;
+  inside = rw same (omega (arith, s.inside));
+  letters = rw (same, h, length-set) s.letters;
+  room = rw (same, k, length-set) s.room;
+  heads = λ x. rw (same, h) (head x (ℕ_discrete x a));
+  links = λ j low high. rw (same, k) (link j low (rw same at high) (dec_lt i j));
 }
   where
+    w : List ℕ
+    w = r.word.now
+
     i : ℕ
     i = r'.at
 
@@ -88,30 +89,35 @@ reads_more w r r' e h k s = record {
 
 -- ── At the end, and one place to the right ──
 
-pub reads_end : (w : List ℕ) (r : Reading) (n : ℕ) → Below n w → length w ≤ length r.links.now → r.at ≡ length w
-    → r.heads.now ≡ replicate n 0 → Reads w r
-reads_end w r n few room e h = record {
+pub reads_end : (r : Inside) (n : ℕ) → length r.word.now ≤ 4096 → Below n r.word.now → length r.word.now ≤ length r.links.now
+    → r.at ≡ length r.word.now → r.heads.now ≡ replicate n 0 → Reads r
+reads_end r n few below room e h = record {
+  few = few;
   inside = omega arith;
-  letters = rw (h, length-replicate {A = ℕ} n 0) few;
+  letters = rw (h, length-replicate {A = ℕ} n 0) below;
   room = room;
   heads = λ x. rw (h, get_or_zeros n x, e) (nothing x);
   links = λ k low high. absurd (omega arith);
 }
   where
-    nothing : (x : ℕ) → Behind w (length w) x 0
-    nothing x = absent (λ s. not_sub_nil (rw (drop-length w) at s))
+    nothing : (x : ℕ) → Behind r.word.now (length r.word.now) x 0
+    nothing x = absent (λ s. not_sub_nil (rw (drop-length r.word.now) at s))
 
-pub reads_pass : (w : List ℕ) (r r' : Reading) → r'.at ≡ r.at + 1 → r.at < length w
-    → r'.heads.now ≡ set r.heads.now (get_or w r.at 0) (get_or r.links.now r.at 0)
-    → r'.links.now ≡ r.links.now → Reads w r → Reads w r'
-reads_pass w r r' e l h k s = record {
-  inside = omega arith;
-  letters = rw (h, length-set) s.letters;
-  room = rw k s.room;
-  heads = λ x. let f : r'.at ≡ suc r.at = omega arith in rw (h, f) (head x (ℕ_discrete x a));
-  links = λ j low high. rw k (s.links j (omega arith) high);
+pub reads_pass : (r r' : Inside) → r'.word.now ≡ r.word.now → r'.at ≡ r.at + 1 → r.at < length r.word.now
+    → r'.heads.now ≡ set r.heads.now (get_or r.word.now r.at 0) (get_or r.links.now r.at 0)
+    → r'.links.now ≡ r.links.now → Reads r → Reads r'
+reads_pass r r' same e l h k s = record {
+  few = rw same s.few;
+  inside = rw same (omega arith);
+  letters = rw (same, h, length-set) s.letters;
+  room = rw (same, k) s.room;
+  heads = λ x. let f : r'.at ≡ suc r.at = omega arith in rw (same, h, f) (head x (ℕ_discrete x a));
+  links = λ j low high. rw (same, k) (s.links j (omega arith) (rw same at high));
 }
   where
+    w : List ℕ
+    w = r.word.now
+
     i : ℕ
     i = r.at
 
@@ -123,20 +129,8 @@ reads_pass w r r' e l h k s = record {
         rw (f, get_or-set_same r.heads.now a (get_or r.links.now i 0) 0 (s.letters i l)) (s.links i (omega arith) l)
     head x (no n) = rw (get_or-set_other r.heads.now a x (get_or r.links.now i 0) 0 n) (behind_past w i x l n (s.heads x))
 
--- the first occurrence of a letter, as memory has it
-pub head_place : (w : List ℕ) (r : Reading) (x : ℕ) → Reads w r → 0 < get_or r.heads.now x 0
-    → (r.at < get_or r.heads.now x 0) × (get_or r.heads.now x 0 ≤ length w) × Sub (x ∷ []) (drop r.at w)
-    × (after ℕ_discrete x (drop r.at w) ≡ drop (get_or r.heads.now x 0) w)
-head_place w r x s some = go some (s.heads x)
-  where
-    go : {n : ℕ} → 0 < n → Behind w r.at x n
-        → (r.at < n) × (n ≤ length w) × Sub (x ∷ []) (drop r.at w) × (after ℕ_discrete x (drop r.at w) ≡ drop n w)
-    go some (absent o) = absurd (omega arith)
-    go some (behind h k o e) = (omega arith, k, o, e)
-
-pub head_occurs : (w : List ℕ) (r : Reading) (x : ℕ) → Reads w r → Sub (x ∷ []) (drop r.at w) → 0 < get_or r.heads.now x 0
-head_occurs w r x s o = go (s.heads x)
-  where
-    go : {n : ℕ} → Behind w r.at x n → 0 < n
-    go (absent n) = absurd (n o)
-    go (behind h k p e) = omega arith
+-- the place behind a letter that occurs
+pub head_occurs : {n i x : ℕ} {w : List ℕ} → Sub (x ∷ []) (drop i w) → Behind w i x n
+    → (i < n) × (n ≤ length w) × (after ℕ_discrete x (drop i w) ≡ drop n w)
+head_occurs o (absent n) = absurd (n o)
+head_occurs o (behind h k p e) = (omega arith, k, e)

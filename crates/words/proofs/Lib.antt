@@ -15,6 +15,7 @@ pub mod Forms
 pub mod Examples
 pub mod LetterOrders
 pub mod Spelling
+pub mod Searching
 pub mod Numbering
 pub mod Scans
 pub mod Passing
@@ -23,8 +24,8 @@ pub mod Gathering
 pub mod FormCalls
 pub mod Heads
 pub mod Tables
-pub mod Stacks
+pub mod Paths
 pub mod Staircase
+pub mod Keeping
 pub mod RowLetters
-pub mod RankRows
 pub mod RowWords

@@ -1,15 +1,14 @@
 -- The pass that drops letters, as a loop: what it keeps true, and what it leaves.
 use Rattle.std.proofs.Common.{◌≡◌, ℕ, zero, suc, ◌+◌, ◌-◌, ◌<◌, ◌≤◌, List, [], ◌∷◌, ◌++◌, length, get_or, take, drop, set, sym, refl, ap, ◌∙◌, add-one, arith}
 use native.Mathlib.Decide.{ℕ_discrete}
-use Rattle.std.proofs.lemmas.List.{length-take-le, length-drop, take_more, take_all, take-append-drop, take_at, drop_more, drop-set, drop_all}
+use Rattle.std.proofs.lemmas.List.{length-take-le, length-drop, take_more, take_all, take-append-drop, drop_more, drop-set, drop_all}
 use Rattle.std.proofs.iter.runs.Lists.{same_Some, slice_get_within}
 use Rattle.std.proofs.lemmas.Option.{slice_get-get_or}
-use Rattle.words.specs.Steps.{Below, Spells, nothing, letter, Numbered, right, left, rights, lefts, Ahead}
-use Rattle.words.specs.Steps.{Climbs, top, step, NoneToDrop, Kept, Thinned}
+use Rattle.words.specs.Steps.{Below, Spells, nothing, letter, right, left, rights, lefts, Ahead}
+use Rattle.words.specs.Steps.{Climbs, top, step, NoneToDrop, Kept}
 use Rattle.words.proofs.Coordinates.{lefts_at, left_bound}
 use Rattle.words.proofs.Dropping.{dropping, Needed, needed?, Lean, Passed, pass_start, keep_step, drop_step}
 use Rattle.words.proofs.Scans.{ahead_small}
-use Rattle.words.proofs.Spelling.{spells_length}
 
 -- ── Lean words ──
 
@@ -161,32 +160,3 @@ spelled_below b (letter e h) (suc i) l = spelled_below b h i (omega arith)
 pub rest_below : {bound k : ℕ} {w places behind : List ℕ} (n first : ℕ) (ranks : List ℕ) → length ranks ≡ n → Below bound w
     → Kept k w places (drop first ranks) behind → Below bound (take (n - first) (drop first ranks))
 rest_below n first ranks e b h = rw (rest_part n first ranks e) (spelled_below b h.spelled)
-
--- the left coordinates written for that part
-pub rest_lefts : (n first : ℕ) (ranks out more : List ℕ) → length ranks ≡ n
-    → out ≡ lefts ℕ_discrete [] (take (n - first) (drop first ranks))
-    → take (n - first) (out ++ more) ≡ lefts ℕ_discrete [] (drop first ranks)
-rest_lefts n first ranks out more e f =
-    let all = f ∙ ap (lefts ℕ_discrete []) (rest_part n first ranks e) in
-    let long = ap length all ∙ lefts_length [] (drop first ranks) ∙ length-drop first ranks in
-    take_at out more (n - first) (omega arith) ∙ all
-
--- what is left of a word, in the parts of the memory where it stands
-pub thinned : {A : Type 0} {lt : A → A → Type 0} {k : ℕ} {word v : List A} {listed numbers vs : List ℕ} (n first : ℕ)
-    (places ranks before behind : List ℕ) → n ≡ length word → length places ≡ n → length ranks ≡ n → length behind ≡ n
-    → Numbered lt word v listed numbers vs → Kept k numbers (drop first places) (drop first ranks) (drop first behind)
-    → take (length numbers - first) before ≡ lefts ℕ_discrete [] (drop first ranks)
-    → Thinned lt k word (take (n - first) (drop first places)) (take (n - first) (drop first ranks))
-    (take (n - first - 0) before) (take (n - first) (drop first behind))
-thinned {numbers = numbers} n first places ranks before behind e lp lr lb h kept left =
-    rw (rest_part n first places lp, rest_part n first ranks lr, rest_part n first behind lb)
-    (record {
-      letters = h.letters;
-      numbers = numbers;
-      rising = h.rising;
-      spelled = h.first;
-      lean = kept;
-      coordinates =
-          let same : n - first - 0 ≡ length numbers - first = omega (arith, spells_length h.first) in
-          ap (λ m. take m before) same ∙ left;
-    })

@@ -2,7 +2,7 @@
 use Rattle.std.proofs.Common.{◌≡◌, ℕ, ◌+◌, ◌<◌, ◌≤◌, min, List, [], ◌∷◌, map, reverse, length, get_or, take, drop, set, sym, refl, ap, ◌∙◌, arith}
 use native.Mathlib.Decide.{ℕ_discrete}
 use mathlib.Core.List.{reverse-append}
-use Rattle.std.proofs.lemmas.List.{get_or-set_same, get_or-set_other, get_or-map, length-map, length-set, length-take, length-drop, length-reverse, drop_more, drop-set, drop_all, take_more, take_more_set, take_all}
+use Rattle.std.proofs.lemmas.List.{get_or-set_same, get_or-set_other, get_or-map, length-map, length-set, length-take, length-drop, length-reverse, drop_more, drop-set, take_more, take_more_set}
 use Rattle.words.specs.Steps.{right, left, rights, lefts, Ahead}
 use Rattle.words.proofs.Coordinates.{right_none, right_same, right_other, right_bound, lefts_append}
 
@@ -52,14 +52,6 @@ pub record SeenRight (word : List ℕ) (i : ℕ) (vector out : List ℕ) : Type 
   pub ahead : Ahead vector (drop i word)
   pub written : drop i out ≡ rights ℕ_discrete (drop i word)
 
-pub right_start : {vector : List ℕ} (word out : List ℕ) (n : ℕ) → n ≡ length word → length out ≡ length word
-    → Ahead vector [] → SeenRight word n vector out
-right_start word out n e f h =
-    record {
-      ahead = rw (drop_all n word (omega arith)) h;
-      written = rw (drop_all n word (omega arith), drop_all n out (omega arith));
-    }
-
 pub right_step : {word vector out : List ℕ} {j : ℕ} (i c : ℕ) (after : List ℕ) → i + 1 ≡ j → SeenRight word j vector out
     → i < length word → length out ≡ length word
     → ((q : List ℕ) → Ahead vector q → (c ≡ right ℕ_discrete (get_or word i 0) q) × Ahead after (get_or word i 0 ∷ q))
@@ -79,18 +71,12 @@ pub right_small : {word vector out : List ℕ} (i a : ℕ) → SeenRight word i 
 right_small {word} {vector} i a h l =
     ahead_small vector (drop i word) a (length word) l (omega (arith, length-drop i word)) h.ahead
 
-pub right_end : {word vector out : List ℕ} → SeenRight word 0 vector out → out ≡ rights ℕ_discrete word
-right_end h = h.written
-
 -- ── From the left ──
 
 -- The places before `i` were seen, the vector looks at them from behind, and their coordinates are written.
 pub record SeenLeft (word : List ℕ) (i : ℕ) (vector out : List ℕ) : Type 0 where
   pub ahead : Ahead vector (reverse (take i word))
   pub written : take i out ≡ lefts ℕ_discrete [] (take i word)
-
-pub left_start : {vector : List ℕ} (word out : List ℕ) → Ahead vector [] → SeenLeft word 0 vector out
-left_start word out h = record { ahead = h; written = refl }
 
 pub left_step : {word vector out : List ℕ} (i c : ℕ) (after : List ℕ) → SeenLeft word i vector out → i < length word
     → length out ≡ length word
@@ -112,7 +98,3 @@ pub left_small : {word vector out : List ℕ} (i a : ℕ) → SeenLeft word i ve
 left_small {word} {vector} i a h l =
     ahead_small vector (reverse (take i word)) a (length word) l
     (omega (arith, length-reverse (take i word), length-take i word)) h.ahead
-
-pub left_end : {word vector out : List ℕ} (i : ℕ) → SeenLeft word i vector out → length word ≤ i → length out ≡ length word
-    → out ≡ lefts ℕ_discrete [] word
-left_end {word} {vector} {out} i h l e = rw (take_all i out (omega arith), take_all i word l) at h.written

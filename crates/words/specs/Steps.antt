@@ -1,8 +1,8 @@
 -- What the private functions of the crate promise each other.
-use Rattle.std.specs.Prelude.{◌≡◌, ℕ, zero, suc, ◌+◌, ◌<◌, ◌≤◌, min, List, [], ◌∷◌, ◌++◌, reverse, length, Some, slice_index}
+use Rattle.std.specs.Prelude.{◌≡◌, ℕ, suc, ◌+◌, ◌<◌, ◌≤◌, min, List, [], ◌∷◌, ◌++◌, reverse, length, Some, slice_index}
 use Rattle.std.proofs.Math.Decide.{ℕ_discrete}
 use Rattle.std.proofs.Math.Logic.{ite}
-use Rattle.std.specs.List.{slice_get}
+use Rattle.std.specs.List.{slice_get, swap}
 use Rattle.words.specs.Words.{Sub, Within, Congruent}
 
 -- all numbers of the list are below the bound
@@ -23,12 +23,6 @@ Rising {A} lt list = (i j : ℕ) (a b : A) → i < j → slice_get list i ≡ So
 -- every letter of the word is in the list
 abbrev pub Covers : {A : Type 0} → List A → List A → Type 0
 Covers {A} list w = (a : A) → Sub (a ∷ []) w → Sub (a ∷ []) list
-
--- the letters of the list before the place `r` are those that are before `x`
-pub record RankOf {A : Type 0} (lt : A → A → Type 0) (list : List A) (x : A) (r : ℕ) : Type 0 where
-  pub within : r ≤ length list
-  pub before : (j : ℕ) (a : A) → j < r → slice_get list j ≡ Some a → lt a x
-  pub behind : (j : ℕ) (a : A) → r ≤ j → slice_get list j ≡ Some a → ¬ lt a x
 
 -- The places list the different letters of the word, in their order.
 pub record Listed {A : Type 0} (lt : A → A → Type 0) (w : List A) (places : List ℕ) : Type 0 where
@@ -109,18 +103,10 @@ pub record Thinned {A : Type 0} (lt : A → A → Type 0) (k : ℕ) (word : List
 abbrev pub Level : ℕ → List ℕ → List ℕ → ℕ → Type 0
 Level k L R i = (slice_index L i ≡ slice_index L (suc i)) × (slice_index R i ≡ slice_index R (suc i)) × (slice_index L i + slice_index R i ≡ suc k)
 
--- the word with the letters at the places `i` and `i + 1` exchanged, if it has both
-abbrev pub swapped : {A : Type 0} → ℕ → List A → List A
-swapped zero [] = []
-swapped zero (a ∷ []) = a ∷ []
-swapped zero (a ∷ b ∷ w) = b ∷ a ∷ w
-swapped (suc i) [] = []
-swapped (suc i) (a ∷ w) = a ∷ swapped i w
-
 -- the second word comes from the first by exchanges of neighbours at places where `P` holds
 pub data Exchanged {A : Type 0} (P : ℕ → Type 0) (u : List A) : List A → Type 0 where
   none : Exchanged P u u
-  more : {w : List A} (i : ℕ) → P i → suc i < length w → Exchanged P u w → Exchanged P u (swapped i w)
+  more : {w : List A} (i : ℕ) → P i → suc i < length w → Exchanged P u w → Exchanged P u (swap w i (suc i))
 
 -- Numbers and letters were reordered together, by exchanges of numbers where `P` holds.
 pub record Reordered {A : Type 0} (P : ℕ → Type 0) (ns : List ℕ) (w : List A) (ns' : List ℕ) (w' : List A) : Type 0 where

@@ -1,7 +1,8 @@
 //! Why a question about words is refused.
 
-ghost use Rattle.std.specs.Prelude.{◌≡◌};
 ghost use Rattle.words.specs.Faults.{word_fault};
+
+use refusals::{Fault, Refusal};
 
 /// The letters that a word has at most.
 pub const LONGEST: usize = 4096;
@@ -17,25 +18,18 @@ pub enum WordFault {
     Output(usize),
 }
 
-impl WordFault {
-    pub fn number(self) -> u8
-        ensures { result ≡ (word_fault self).0 }
-    {
-        match self {
-            WordFault::TooLong => 43,
-            WordFault::Scratch(_) => 41,
-            WordFault::Output(_) => 42,
-        }
-    }
+/// The place of a refusal is the length that is allowed or wanted.
+impl Fault for WordFault {
+    ghost numbers = { word_fault };
 
-    /// The length that is allowed or wanted.
-    pub fn place(self) -> usize
-        ensures { result ≡ (word_fault self).1 }
-    {
+    fn refusal(self) -> Refusal {
         match self {
-            WordFault::TooLong => LONGEST,
-            WordFault::Scratch(wanted) => wanted,
-            WordFault::Output(wanted) => wanted,
+            WordFault::TooLong => Refusal {
+                number: 43,
+                place: LONGEST,
+            },
+            WordFault::Scratch(place) => Refusal { number: 41, place },
+            WordFault::Output(place) => Refusal { number: 42, place },
         }
     }
 }

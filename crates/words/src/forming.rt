@@ -5,29 +5,18 @@ ghost use Rattle.words.specs.Forms.{Accepted, FormAnswer, Refused};
 ghost use Rattle.words.specs.Letters.{Before};
 ghost use Rattle.words.specs.Steps.{Below, Climbs, Spells};
 
-use crate::fault::{LONGEST, WordFault};
-use crate::lean::{Lean, thin_out};
-use crate::sort::sort;
+use crate::fault::WordFault;
+use crate::lean::thin_out;
+use crate::lent::{check_length, check_output, check_scratch};
 use letters::OrderedLetter;
-
-/// The numbers of scratch for each letter of a word, and as many again.
-const SCRATCH: usize = 16;
 
 /// Whether the form of a word of `letters` letters can be found in this much memory.
 fn check(letters: usize, room: usize, scratch: usize) -> Result<(), WordFault>
-    ensures { MatchResult result (λ _. Accepted letters room scratch) (λ fault. Refused letters room scratch fault) }
+    ensures { MatchResult result (λ _. Accepted letters room scratch) (Refused letters room scratch) }
 {
-    if letters > LONGEST {
-        return Err(WordFault::TooLong);
-    }
-    let wanted = SCRATCH * (letters + 1);
-    if scratch < wanted {
-        return Err(WordFault::Scratch(wanted));
-    }
-    if room < letters {
-        return Err(WordFault::Output(letters));
-    }
-    Ok(())
+    check_length(letters)?;
+    check_scratch(scratch, letters + 1)?;
+    check_output(room, letters)
 }
 
 /// Writes the letters at these places of the word, one after the other, at the start of `out`.
@@ -37,8 +26,8 @@ fn gather<L: OrderedLetter>(word: &[L], places: &[u32], out: &mut [L])
     ensures letters { Spells word.now places.now (take (length places.now) out.new) }
     ensures rest { drop (length places.now) out.new ≡ drop (length places.now) out.old }
 {
-    for i in 0..places.len() {
-        out[i] = word[places[i] as usize];
+    for (i, place) in places.iter().enumerate() {
+        out[i] = word[*place as usize];
     }
 }
 
@@ -50,8 +39,9 @@ fn gather_in_place<L: OrderedLetter>(word: &mut [L], places: &[u32])
     ensures letters { Spells word.old places.now (take (length places.now) word.new) }
     ensures rest { drop (length places.now) word.new ≡ drop (length places.now) word.old }
 {
-    for i in 0..places.len() {
-        word[i] = word[places[i] as usize];
+    // A twin, as `form_in_place` is: one memory cannot be lent to be read and to be written at once.
+    for (i, place) in places.iter().enumerate() {
+        word[i] = word[*place as usize];
     }
 }
 
@@ -67,15 +57,11 @@ pub fn form<L: OrderedLetter>(
     ensures { FormAnswer (Before L.order) k word.now out.old scratch.old result out.new scratch.new }
 {
     check(word.len(), out.len(), scratch.len())?;
-    let Lean {
-        places,
-        ranks,
-        before,
-        behind,
-    } = thin_out(word, k, scratch);
+    let mut lean = thin_out(word, k, scratch);
+    let places = lean.places();
     let count = places.len();
     gather(word, places, out);
-    sort(&mut out[0..count], ranks, before, behind, k);
+    lean.sort(&mut out[..count]);
     Ok(count)
 }
 
@@ -88,14 +74,10 @@ pub fn form_in_place<L: OrderedLetter>(
     ensures { FormAnswer (Before L.order) k word.old word.old scratch.old result word.new scratch.new }
 {
     check(word.len(), word.len(), scratch.len())?;
-    let Lean {
-        places,
-        ranks,
-        before,
-        behind,
-    } = thin_out(word, k, scratch);
+    let mut lean = thin_out(word, k, scratch);
+    let places = lean.places();
     let count = places.len();
     gather_in_place(word, places);
-    sort(&mut word[0..count], ranks, before, behind, k);
+    lean.sort(&mut word[..count]);
     Ok(count)
 }

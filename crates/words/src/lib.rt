@@ -3,9 +3,12 @@
 //! are in `specs/`, what is shown of them in `proofs/`.
 #![tactic(auto)]
 
+mod both;
+mod climb;
 mod fault;
 mod forming;
 mod lean;
+mod lent;
 mod pairing;
 mod ranks;
 mod reading;
@@ -16,6 +19,7 @@ mod stairs;
 mod stretches;
 mod telling;
 mod told;
+mod tree;
 mod vector;
 
 pub use fault::WordFault;

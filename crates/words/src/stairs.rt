@@ -1,204 +1,183 @@
 //! The staircase: for each place of the left word the end part of the right word that stands for it, and the level up
 //! to which the two agree. From it follows up to which level any two end parts of the two words agree.
 
-ghost use Rattle.std.specs.Prelude.{◌≡◌, ℕ, ◌+◌, ◌<◌, ◌≤◌, length, drop};
+ghost use Rattle.std.specs.Prelude.{◌≡◌, ◌+◌, ◌-◌, ◌*◌, ◌<◌, ◌≤◌, min, [], ◌∷◌, length, Decides};
 ghost use Rattle.std.proofs.Math.Decide.{ℕ_discrete};
-ghost use Rattle.words.specs.Degrees.{Follow};
-ghost use Rattle.words.specs.Reading.{Reads};
-ghost use Rattle.words.specs.Places.{Paired, depth as depth_of};
-ghost use Rattle.words.specs.RowSteps.{cap, Found, Partners};
-ghost use Rattle.words.specs.Steps.{rights};
-ghost use Rattle.words.specs.Stairs.{Ready, Stand, PartnerFrom, Stood, Says, Met, DegreeBy};
+ghost use Rattle.words.specs.Words.{Sub};
+ghost use Rattle.words.specs.Degrees.{Follow, after};
+ghost use Rattle.words.specs.Reading.{end_part};
+ghost use Rattle.words.specs.RowSteps.{cap};
+ghost use Rattle.words.specs.Stairs.{Stand};
+ghost use Rattle.words.specs.Steps.{Below};
 
 use crate::reading::Reading;
-use crate::stretches::between;
+use crate::stretches::Stretches;
+use std::marker::Model;
 
-/// Two words of ranks, the right one no longer than the left one, with the table of degrees inside the right one.
+/// What stands for an end part of the left word.
 #[derive(Clone, Copy)]
-pub(crate) struct Pair<'a> {
-    pub left: &'a [u32],
-    pub right: &'a [u32],
-    pub table: &'a [u32],
-}
-
-/// For each place of the left word what stands for it in the right word.
-#[derive(Drop)]
-pub(crate) struct Stairs<'a> {
-    /// Up to which level the end parts agree.
-    pub levels: &'a mut [u32],
+pub(crate) struct Stair {
+    /// Up to which level the two agree.
+    pub level: u32,
     /// Where the end part of the right word begins.
-    pub stands: &'a mut [u32],
+    pub stand: u32,
 }
 
-/// What a letter says of two end parts, from the places behind its first occurrence in each.
-fn follow(pair: Pair, stairs: &Stairs, left: u32, right: u32) -> u32
-    requires ready { Ready pair }
-    requires left { left ≤ length pair.left.now }
-    requires right { right ≤ length pair.right.now }
-    requires stood { 0 < left → Stood pair left stairs.now }
-    ensures { Says pair.entry left right result }
-{
-    if left == 0 {
-        if right == 0 {
-            pair.right.len() as u32 + 2
-        } else {
-            0
-        }
-    } else if right == 0 {
-        0
-    } else {
-        let place = left as usize;
-        let stand = stairs.stands[place] as usize;
-        stairs.levels[place].min(between(pair.right, pair.table, stand, right as usize))
-    }
-}
-
-/// What a letter says of the end parts that were reached.
-pub(crate) fn say(
-    pair: Pair,
-    stairs: &Stairs,
-    left: &Reading,
-    right: &Reading,
-    letter: usize,
-) -> u32
-    requires ready { Ready pair }
-    requires left { Reads pair.left.now left.now }
-    requires right { Reads pair.right.now right.now }
-    requires stood { Stood pair (left.now.at + 1) stairs.now }
-    requires left_letter { letter < length left.now.heads.now }
-    requires right_letter { letter < length right.now.heads.now }
-    ensures { Follow ℕ_discrete (cap pair.entry.right.now) letter (drop left.now.at pair.entry.left.now) (drop right.now.at pair.entry.right.now) result }
-{
-    follow(pair, stairs, left.heads[letter], right.heads[letter])
-}
-
-/// Puts the next letter of the left word in front of its end part.
-fn put_left(pair: Pair, stairs: &Stairs, left: &mut Reading, right: &Reading, says: &mut [u32])
-    requires ready { Ready pair }
-    requires stood { Stood pair left.old.at stairs.now }
-    requires met { Met pair left.old right.now says.old }
-    requires more { 0 < left.old.at }
-    ensures at { left.new.at + 1 ≡ left.old.at }
-    ensures met { Met pair.entry left.new right.now says.new }
-{
-    left.put_front(pair.left);
-    let letter = pair.left[left.at] as usize;
-    says[letter] = say(pair, stairs, left, right, letter);
-}
-
-/// Puts the next letter of the right word in front of its end part.
-fn put_right(pair: Pair, stairs: &Stairs, left: &Reading, right: &mut Reading, says: &mut [u32])
-    requires ready { Ready pair }
-    requires stood { Stood pair (left.now.at + 1) stairs.now }
-    requires met { Met pair left.now right.old says.old }
-    requires more { 0 < right.old.at }
-    ensures at { right.new.at + 1 ≡ right.old.at }
-    ensures met { Met pair.entry left.now right.new says.new }
-{
-    right.put_front(pair.right);
-    let letter = pair.right[right.at] as usize;
-    says[letter] = say(pair, stairs, left, right, letter);
-}
-
-/// Puts letters of the right word in front of its end part, down to the place `to`.
-fn walk_right(
-    pair: Pair,
-    stairs: &Stairs,
-    left: &Reading,
-    right: &mut Reading,
-    says: &mut [u32],
-    to: usize,
-)
-    requires ready { Ready pair }
-    requires stood { Stood pair (left.now.at + 1) stairs.now }
-    requires met { Met pair left.now right.old says.old }
-    requires before { to ≤ right.old.at }
-    ensures at { right.new.at ≡ to }
-    ensures met { Met pair.entry left.now right.new says.new }
-{
-    while right.at > to {
-        put_right(pair, stairs, left, right, says);
-    }
-}
-
-/// The degree of two words, from what each letter says of them: one more than the least, or the cap.
-pub(crate) fn degree(says: &[u32], most: u32) -> u32
-    requires { most ≤ 5000 }
-    ensures { DegreeBy most says.now result }
-{
-    let mut least = most;
-    for said in says {
-        least = least.min(*said);
-    }
-    (least + 1).min(most)
-}
-
-/// Finds the level and the place of what stands for the place of the left word that was reached: its partner, if the two
-/// agree above its depth, otherwise what stands for the next place.
-fn stand_for(
-    pair: Pair,
-    depth: u32,
-    partner: u32,
-    stairs: &Stairs,
-    left: &Reading,
-    right: &mut Reading,
-    says: &mut [u32],
-) -> (u32, u32)
-    requires ready { Ready pair }
-    requires inside { left.now.at < length pair.left.now }
-    requires depth { depth ≡ depth_of ℕ_discrete pair.left.now left.now.at }
-    requires partner { Found (Paired ℕ_discrete pair.left.now pair.right.now left.now.at) partner }
-    requires last { PartnerFrom pair.left.now pair.right.now (left.now.at + 1) right.old.at }
-    requires stood { Stood pair (left.now.at + 1) stairs.now }
-    requires met { Met pair left.now right.old says.old }
-    ensures stand { Stand pair.entry.left.now pair.entry.right.now left.now.at result.0 result.1 }
-    ensures last { PartnerFrom pair.entry.left.now pair.entry.right.now left.now.at right.new.at }
-    ensures met { Met pair.entry left.now right.new says.new }
-{
-    if partner > 0 {
-        walk_right(pair, stairs, left, right, says, partner as usize - 1);
-        let level = degree(says, pair.right.len() as u32 + 2);
-        if level > depth {
-            return (level, partner - 1);
+impl Stair {
+    /// What stands for the end part with a letter of this depth in front, if no partner does: the same, up to the depth.
+    pub(crate) fn lowered(self, depth: u32) -> Stair
+        ensures level { result.level ≡ min depth self.level }
+        ensures stand { result.stand ≡ self.stand }
+    {
+        Stair {
+            level: depth.min(self.level),
+            stand: self.stand,
         }
     }
-    let next = left.at + 1;
-    (depth.min(stairs.levels[next]), stairs.stands[next])
 }
 
-/// Finds what stands for each place of the left word, from right to left. Both words are read from their ends to their
-/// starts.
-pub(crate) fn climb(
-    pair: Pair,
-    depths: &[u32],
-    partners: &[u32],
-    stairs: &mut Stairs,
-    left: &mut Reading,
-    right: &mut Reading,
-    says: &mut [u32],
-)
-    requires ready { Ready pair }
-    requires depths { depths.now ≡ rights ℕ_discrete pair.left.now }
-    requires partner_room { length pair.left.now < length partners.now }
-    requires partners { Partners pair.left.now pair.right.now partners.now }
-    requires level_room { length pair.left.now < length stairs.old.levels.now }
-    requires stand_room { length pair.left.now < length stairs.old.stands.now }
-    requires left_end { left.old.at ≡ length pair.left.now }
-    requires right_end { right.old.at ≡ length pair.right.now }
-    requires met { Met pair left.old right.old says.old }
-    ensures stood { Stood pair.entry 0 stairs.new }
-    ensures left_start { left.new.at ≡ 0 }
-    ensures right_start { right.new.at ≡ 0 }
-    ensures met { Met pair.entry left.new right.new says.new }
-{
-    let end = pair.left.len();
-    stairs.levels[end] = pair.right.len() as u32 + 2;
-    stairs.stands[end] = pair.right.len() as u32;
-    for i in (0..end).rev() {
-        put_left(pair, stairs, left, right, says);
-        let (level, stand) = stand_for(pair, depths[i], partners[i], stairs, left, right, says);
-        stairs.levels[i] = level;
-        stairs.stands[i] = stand;
+/// Two words of ranks with their end parts that were reached, and what stands for the places of the left word behind
+/// the one that was reached.
+#[derive(Drop)]
+pub(crate) struct Pair<'a> {
+    left: Reading<'a>,
+    right: Reading<'a>,
+    /// The degrees inside the right word.
+    stretches: Stretches<'a>,
+    /// The levels of the stairs and their stands, for each place of the left word: two slices, since scratch is lent as
+    /// 32-bit numbers.
+    levels: &'a mut [u32],
+    stands: &'a mut [u32],
+}
+
+impl<'a> Model for Pair<'a> {
+    ghost use Rattle.words.specs.Stairs.{Ends};
+
+    ghost Value = { Ends };
+
+    ghost use Rattle.words.specs.Ready.{Ready};
+
+    ghost view = { λ p. record { left = p.left; right = p.right } };
+
+    ghost invariant = { Ready };
+}
+
+impl<'a> Pair<'a> {
+    /// Stands at the ends of both words, the right one with its stretches.
+    pub(crate) fn start(
+        left: &'a [u32],
+        stretches: Stretches<'a>,
+        letters: usize,
+        memory: &'a mut [u32],
+    ) -> Pair<'a>
+        requires few { length left.now ≤ 4096 }
+        requires shorter { length stretches ≤ length left.now }
+        requires few_letters { letters ≤ 8192 }
+        requires left_letters { Below letters left.now }
+        requires right_letters { Below letters stretches }
+        requires room { 3 * length left.now + length stretches + 2 * letters + 2 ≤ length memory.old }
+        ensures left { result.left ≡ record { word = left.entry.now; at = length left.entry.now; letters = letters } }
+        ensures right { result.right ≡ record { word = stretches.entry; at = length stretches.entry; letters = letters } }
+    {
+        let right = stretches.word();
+        let (levels, rest) = memory.split_at_mut(left.len() + 1);
+        let (stands, rest) = rest.split_at_mut(left.len() + 1);
+        let (left_heads, rest) = rest.split_at_mut(letters);
+        let (right_heads, rest) = rest.split_at_mut(letters);
+        let (left_links, right_links) = rest.split_at_mut(left.len());
+        Pair {
+            left: Reading::start(left, left_heads, left_links),
+            right: Reading::start(right, right_heads, right_links),
+            stretches,
+            levels,
+            stands,
+        }
     }
-    walk_right(pair, stairs, left, right, says, 0);
+
+    /// Up to which level the degrees are counted: more letters than the right word has, so no row has as many.
+    pub(crate) fn cap(&self) -> u32
+        ensures cap { result ≡ cap self.now.right.word }
+        ensures few { result ≤ 4098 }
+    {
+        self.stretches.cap()
+    }
+
+    /// How many letters there are.
+    pub(crate) fn letters(&self) -> usize
+        ensures letters { result ≡ self.now.left.letters }
+        ensures few { result ≤ 8192 }
+        ensures left { Below result self.now.left.word }
+        ensures right { Below result self.now.right.word }
+    {
+        self.left.letters()
+    }
+
+    /// Where the end part of the right word begins.
+    pub(crate) fn right_at(&self) -> usize
+        ensures { result ≡ self.now.right.at }
+    {
+        self.right.at()
+    }
+
+    /// Whether the end part of the left word has a letter.
+    pub(crate) fn left_has(&self, letter: usize) -> bool
+        requires { letter < self.now.left.letters }
+        ensures { Decides result (Sub (letter ∷ []) (end_part self.now.left)) }
+    {
+        self.left.behind(letter).is_some()
+    }
+
+    /// What a letter says of the end parts that were reached.
+    pub(crate) fn say(&self, letter: usize) -> u32
+        requires { letter < self.now.left.letters }
+        ensures { Follow ℕ_discrete (cap self.now.right.word) letter (end_part self.now.left) (end_part self.now.right) result }
+    {
+        match (self.left.behind(letter), self.right.behind(letter)) {
+            (None, None) => self.cap(),
+            (Some(left), Some(right)) => {
+                let stand = self.stands[left] as usize;
+                self.levels[left].min(self.stretches.between(stand, right))
+            }
+            (Some(_), None) | (None, Some(_)) => 0,
+        }
+    }
+
+    /// Keeps what stands for the place of the left word that was reached, and puts the next letter, which is given, in
+    /// front of the end part of that word.
+    pub(crate) fn put_left(&mut self, stair: Stair) -> usize
+        requires stair { Stand self.old.left.word self.old.right.word self.old.left.at stair.level stair.stand }
+        requires more { 0 < self.old.left.at }
+        ensures moved { self.new ≡ record self.old { left = record self.old.left { at = self.old.left.at - 1 } } }
+        ensures letter { result < self.old.left.letters }
+        ensures front { end_part self.new.left ≡ result ∷ end_part self.old.left }
+    {
+        let place = self.left.at();
+        self.levels[place] = stair.level;
+        self.stands[place] = stair.stand;
+        self.left.put_front()
+    }
+
+    /// Puts the next letter of the right word, which is given, in front of its end part.
+    pub(crate) fn put_right(&mut self) -> usize
+        requires more { 0 < self.old.right.at }
+        ensures moved { self.new ≡ record self.old { right = record self.old.right { at = self.old.right.at - 1 } } }
+        ensures letter { result < self.old.left.letters }
+        ensures front { end_part self.new.right ≡ result ∷ end_part self.old.right }
+    {
+        self.right.put_front()
+    }
+
+    /// Goes on behind the first occurrence of a letter in both words.
+    pub(crate) fn go_behind(&mut self, letter: usize)
+        requires letter { letter < self.old.left.letters }
+        requires left { Sub (letter ∷ []) (end_part self.old.left) }
+        requires right { Sub (letter ∷ []) (end_part self.old.right) }
+        ensures left_word { self.new.left.word ≡ self.old.left.word }
+        ensures right_word { self.new.right.word ≡ self.old.right.word }
+        ensures left { end_part self.new.left ≡ after ℕ_discrete letter (end_part self.old.left) }
+        ensures right { end_part self.new.right ≡ after ℕ_discrete letter (end_part self.old.right) }
+    {
+        self.left.go_behind(letter);
+        self.right.go_behind(letter);
+    }
 }

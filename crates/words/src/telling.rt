@@ -3,19 +3,21 @@
 ghost use Rattle.std.specs.Prelude.{◌≡◌, ℕ, ◌+◌, ◌*◌, ◌<◌, ◌≤◌, length};
 ghost use Rattle.std.proofs.Math.Decide.{ℕ_discrete};
 ghost use Rattle.words.specs.Steps.{rights, Below};
-ghost use Rattle.words.specs.RowSteps.{Rows, Partners};
+ghost use Rattle.words.specs.RowSteps.{Partners};
+ghost use Rattle.words.specs.Stretches.{Rows};
 ghost use Rattle.words.specs.Rows.{ToldRanks};
 
-use crate::pairing::{find_partners, find_siblings};
-use crate::reading::Reading;
-use crate::row::write_row;
-use crate::stairs::{Pair, Stairs, climb, degree};
-use crate::stretches::{LEVELS, fill_table};
+use crate::climb::Climb;
+use crate::pairing::find_partners;
+use crate::stairs::Pair;
+use crate::stretches::{LEVELS, Stretches, write_table};
 use crate::told::Telling;
-use crate::vector::write_rights;
+use crate::tree::{SiblingTree, Tree};
+use crate::vector::Coordinates;
 
 /// Sets the places of two words against each other: the depths of the left word, the table of the right word, and the
 /// partners. The vector has a place for each letter.
+// Plain slices: where `tell` makes the trees and stretches first, the borrow checker does not cover it.
 fn pair_words(
     left: &[u32],
     right: &[u32],
@@ -37,14 +39,16 @@ fn pair_words(
     ensures rows { Rows right.now 13 table.new }
     ensures partners { Partners left.now right.now partners.new }
 {
-    let width = right.len();
-    write_rights(left, vector, depths);
-    write_rights(right, vector, &mut table[0..width]);
-    fill_table(right, table);
-    let right_depths = &table[0..width];
+    Coordinates {
+        word: left,
+        ahead: vector,
+    }
+    .write_rights(depths);
+    write_table(right, vector, table);
     let (stack, siblings) = scratch.split_at_mut(left.len() + 1);
-    find_siblings(right, right_depths, stack, siblings);
-    find_partners(left, depths, right, right_depths, siblings, stack, partners);
+    let own = Tree::new(left, depths);
+    let other = SiblingTree::new(Tree::new(right, &table[..right.len()]), stack, siblings);
+    find_partners(&own, &other, stack, partners);
 }
 
 /// Writes the first telling row of two words of ranks at the start of `row`, and gives its length and its side; none if
@@ -70,33 +74,9 @@ pub(crate) fn tell<'a>(
     let (partners, rest) = rest.split_at_mut(left.len() + 1);
     let (says, rest) = rest.split_at_mut(letters);
     pair_words(left, right, says, depths, table, partners, rest);
-    let (levels, rest) = rest.split_at_mut(left.len() + 1);
-    let (stands, rest) = rest.split_at_mut(left.len() + 1);
-    let (left_heads, rest) = rest.split_at_mut(letters);
-    let (right_heads, rest) = rest.split_at_mut(letters);
-    let (left_links, right_links) = rest.split_at_mut(left.len());
-    let pair = Pair { left, right, table };
-    let mut stairs = Stairs { levels, stands };
-    let mut left_end = Reading::start(left, left_heads, left_links);
-    let mut right_end = Reading::start(right, right_heads, right_links);
-    let cap = right.len() as u32 + 2;
-    says.fill(cap);
-    climb(
-        pair,
-        depths,
-        partners,
-        &mut stairs,
-        &mut left_end,
-        &mut right_end,
-        says,
-    );
-    let degree = degree(says, cap);
-    if degree == cap {
-        return None;
-    }
-    let side = write_row(pair, &stairs, &mut left_end, &mut right_end, row, degree);
-    Some(Telling {
-        length: degree as usize,
-        side,
-    })
+    let pair = Pair::start(left, Stretches::new(right, table), letters, rest);
+    let mut climb = Climb::start(pair, says);
+    climb.climb(depths, partners);
+    let degree = climb.degree()?;
+    Some(climb.into_pair().write_row(row, degree))
 }

@@ -5,15 +5,6 @@ ghost use Rattle.std.specs.Prelude.{◌≡◌, ℕ, ◌+◌, ◌^◌, ◌<◌, m
 ghost use Rattle.std.proofs.Math.Decide.{ℕ_discrete};
 ghost use Rattle.words.specs.Steps.{right, rights, lefts, Below, Ahead};
 
-/// Nothing was seen yet: every rank has the coordinate 1.
-pub(crate) fn clear(vector: &mut [u32])
-    ensures { Ahead vector.new [] }
-{
-    for x in vector.iter_mut() {
-        *x = 1;
-    }
-}
-
 /// Lowers every number to at most `most`.
 fn lower(vector: &mut [u32], most: u32)
     ensures { vector.new ≡ map (λ x. min x most) vector.old }
@@ -23,41 +14,70 @@ fn lower(vector: &mut [u32], most: u32)
     }
 }
 
-/// Puts a rank in front of the word that was seen, and gives the coordinate that it has there.
-pub(crate) fn put_in_front(vector: &mut [u32], rank: u32) -> u32
-    requires within { rank < length vector.old }
-    requires small { slice_index vector.old rank + 1 < 2 ^ 32 }
-    ensures { (q : List ℕ) → Ahead vector.old q → (result ≡ right ℕ_discrete rank q) × Ahead vector.new (rank ∷ q) }
-{
-    let at = rank as usize;
-    let coordinate = vector[at];
-    lower(vector, coordinate + 1);
-    vector[at] = coordinate + 1;
-    coordinate
+/// A word of ranks that is gone over from one of its ends, and the vector for it.
+#[derive(Drop)]
+pub(crate) struct Coordinates<'w, 'v> {
+    pub word: &'w [u32],
+    /// For each rank its coordinate in front of what was seen of the word.
+    pub ahead: &'v mut [u32],
+    ghost ranks: { Below (length ahead.now) word.now },
+    ghost few: { length word.now + 2 < 2 ^ 31 },
 }
 
-/// Writes the right coordinates of a word of ranks.
-pub(crate) fn write_rights(word: &[u32], vector: &mut [u32], out: &mut [u32])
-    requires ranks { Below (length vector.old) word.now }
-    requires few { length word.now + 2 < 2 ^ 32 }
-    requires room { length out.old ≡ length word.now }
-    ensures { out.new ≡ rights ℕ_discrete word.now }
-{
-    clear(vector);
-    for i in (0..word.len()).rev() {
-        out[i] = put_in_front(vector, word[i]);
+impl Coordinates<'_, '_> {
+    /// Nothing was seen yet: every rank has the coordinate 1.
+    pub(crate) fn clear(&mut self)
+        ensures same { self.new.word.now ≡ self.old.word.now }
+        ensures ahead { Ahead self.new.ahead.now [] }
+    {
+        self.ahead.fill(1);
     }
-}
 
-/// Writes the left coordinates of a word of ranks: they are the right ones of the reversed word.
-pub(crate) fn write_lefts(word: &[u32], vector: &mut [u32], out: &mut [u32])
-    requires ranks { Below (length vector.old) word.now }
-    requires few { length word.now + 2 < 2 ^ 32 }
-    requires room { length out.old ≡ length word.now }
-    ensures { out.new ≡ lefts ℕ_discrete [] word.now }
-{
-    clear(vector);
-    for i in 0..word.len() {
-        out[i] = put_in_front(vector, word[i]);
+    /// The coordinate that the letter at the place `i` has in front of what was seen.
+    pub(crate) fn at(&self, i: usize) -> u32
+        requires within { i < length self.now.word.now }
+        ensures { result ≡ slice_index self.now.ahead.now (slice_index self.now.word.now i) }
+    {
+        self.ahead[self.word[i] as usize]
+    }
+
+    /// Puts the letter at the place `i` in front of what was seen, and gives the coordinate that it has there.
+    pub(crate) fn put_in_front(&mut self, i: usize) -> u32
+        requires within { i < length self.old.word.now }
+        requires small { slice_index self.old.ahead.now (slice_index self.old.word.now i) + 1 < 2 ^ 32 }
+        ensures same { self.new.word.now ≡ self.old.word.now }
+        ensures ahead { (q : List ℕ) → Ahead self.old.ahead.now q → (result ≡ right ℕ_discrete (slice_index self.old.word.now i) q) × Ahead self.new.ahead.now (slice_index self.old.word.now i ∷ q) }
+    {
+        let rank = self.word[i] as usize;
+        let coordinate = self.ahead[rank];
+        lower(self.ahead, coordinate + 1);
+        self.ahead[rank] = coordinate + 1;
+        coordinate
+    }
+
+    /// Writes the right coordinates of the word.
+    pub(crate) fn write_rights(&mut self, out: &mut [u32])
+        requires room { length out.old ≡ length self.old.word.now }
+        ensures same { self.new.word.now ≡ self.old.word.now }
+        ensures rights { out.new ≡ rights ℕ_discrete self.old.word.now }
+    {
+        self.clear();
+        // By index, since nothing is known of what is written through `out.iter_mut().enumerate().rev()`.
+        for i in (0..self.word.len()).rev() {
+            out[i] = self.put_in_front(i);
+        }
+    }
+
+    /// Writes the left coordinates of the word: they are the right ones of the reversed word.
+    // Apart from `write_rights`: one function over the order of the places would need a contract about an iterator's order.
+    pub(crate) fn write_lefts(&mut self, out: &mut [u32])
+        requires room { length out.old ≡ length self.old.word.now }
+        ensures same { self.new.word.now ≡ self.old.word.now }
+        ensures lefts { out.new ≡ lefts ℕ_discrete [] self.old.word.now }
+    {
+        self.clear();
+        for (i, coordinate) in out.iter_mut().enumerate() {
+            *coordinate = self.put_in_front(i);
+        }
     }
 }

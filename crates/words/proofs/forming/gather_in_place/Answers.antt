@@ -1,6 +1,6 @@
 use Rattle.std.proofs.Common.{◌<◌, length, get_or, sym, refl, ◌∙◌, arith, rules}
 use Rattle.std.proofs.lemmas.Option.{slice_get_read}
-use Rattle.words.proofs.Gathering.{climbs_above, gathered_start, gathered_step, gathered_read, gathered_end}
+use Rattle.words.proofs.Gathering.{climbs_above, gathered_start, gathered_step, gathered_read}
 use Rattle.words.proofs.forming.gather_in_place.Goals as goal
 
 pub loop-i-init : goal.loop-i-init
@@ -24,14 +24,9 @@ loop-i-preserved g c =
     let word = c.loop-i.word in
     let i = c.loop-i.i in
     let p = get_or c.args.places.now i 0 in
-    let letter = c.index-word-places.result in
+    let letter = c.index-word-place.result in
     let above = climbs_above i c.requires.climbing (omega arith) in
     let below = c.requires.below i (omega arith) in
-    let read = slice_get_read word (length word) p letter refl (omega (arith, c.loop-i.invariant.long)) c.index-word-places.is in
+    let read = slice_get_read word (length word) p letter refl (omega (arith, c.loop-i.invariant.long)) c.index-word-place.is in
     gathered_step letter (omega arith) (omega arith) (sym (gathered_read p (omega arith) c.loop-i.invariant) ∙ read)
     c.loop-i.invariant
-
-pub returns : goal.returns
-returns g c =
-    let end = gathered_end c.loop-i.invariant (omega arith) in
-    record { letters = end.0; rest = end.1 }

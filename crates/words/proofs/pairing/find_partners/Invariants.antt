@@ -1,5 +1,9 @@
-use Rattle.words.proofs.Stacks.{Stack, PartnersFrom}
+use Rattle.words.specs.Paths.{Leads}
+use Rattle.words.specs.RowSteps.{PartnersFrom}
 use Rattle.words.proofs.pairing.find_partners.Given as goal
 
-abbrev pub invariant-loop-i : goal.invariant-loop-i
-invariant-loop-i l = Stack l.own l.i l.below l.stack × PartnersFrom l.own l.word l.i l.partners
+abbrev pub invariant-loop-place : goal.invariant-loop-place
+invariant-loop-place l = record {
+  path : Leads l.own l.place l.path;
+  partners : PartnersFrom l.own l.other l.place l.partners;
+}

@@ -1,5 +1,6 @@
-use Rattle.words.proofs.Tables.{Doubled}
+use Rattle.std.proofs.Common.{◌≡◌, ℕ, ◌+◌, ◌<◌, min, slice_index, slice_index_or}
 use Rattle.words.proofs.stretches.double.Given as goal
 
 abbrev pub invariant-loop-j : goal.invariant-loop-j
-invariant-loop-j l = Doubled l.word l.size l.start l.initial.table l.table l.j
+invariant-loop-j l =
+    (k : ℕ) → k < l.j → slice_index l.next k ≡ min (slice_index l.row k) (slice_index_or l.row (k + l.size) (slice_index l.row k))

@@ -1,6 +1,8 @@
-use Rattle.std.proofs.Common.{refl, arith, length-set}
+use Rattle.std.proofs.Common.{refl, ap, arith}
+use Rattle.words.specs.Reading.{Reached}
 use Rattle.words.proofs.Heads.{reads_more}
 use Rattle.words.proofs.reading.Reading.put_front.Goals as goal
 
-pub returns : goal.returns
-returns c = record { at = omega arith; size = simp length-set refl; reads = reads_more c.args.word.now _ _ (omega arith) refl refl c.requires.reads }
+pub invariant_of-self : goal.invariant_of-self
+invariant_of-self c =
+    reads_more c.self.inside _ refl (omega (arith, ap (λ (r : Reached). r.at) c.self.view_is)) refl refl c.self.invariant
