@@ -1,7 +1,7 @@
 -- What callers in C are answered, as two numbers, by what the cores answer.
 use Rattle.std.specs.Prelude.{◌≡◌, ℕ, List, Some, None, Ok, Err, Option, Result}
 use Rattle.std.specs.declared.cmp.Ordering.{Ordering}
-use Rattle.letters.specs.Order.{by_size}
+use Rattle.std.specs.Ordering.{nat_cmp}
 use Rattle.words.specs.Letters.{Before}
 use Rattle.words.specs.Faults.{word_fault}
 use Rattle.words.specs.Forms.{FormAnswer}
@@ -15,7 +15,7 @@ use Rattle.bindings.specs.declared.reply.Reply.{Reply}
 
 -- Letters are ordered by size.
 abbrev pub letter_order : Letter → Letter → Ordering
-letter_order a b = by_size a.number b.number
+letter_order a b = nat_cmp a.number b.number
 
 -- A refusal: its number and its place.
 abbrev pub refused : WordFault → Reply

@@ -5,7 +5,7 @@ ghost use Rattle.std.specs.Prelude.{◌≡◌};
 ghost use Rattle.bindings.specs.Replies.{SeparateReply, FormReply};
 
 use crate::letter::Letter;
-use crate::reply::{Reply, reply_formed, reply_separated};
+use crate::reply::Reply;
 use words::{form, separate};
 
 /// Writes the first telling row of two words at the start of `row`, as `words::separate` does.
@@ -18,8 +18,7 @@ pub extern "C" fn zuligmaw_separate(
 ) -> Reply
     ensures { SeparateReply left.now right.now row.old scratch.old result row.new scratch.new }
 {
-    let answer = separate(left, right, row, scratch);
-    reply_separated(answer)
+    Reply::from(separate(left, right, row, scratch))
 }
 
 /// Writes the form of a word at `k` at the start of `out`, as `words::form` does.
@@ -32,6 +31,5 @@ pub extern "C" fn zuligmaw_form(
 ) -> Reply
     ensures { FormReply k word.now out.old scratch.old result out.new scratch.new }
 {
-    let answer = form(word, k, out, scratch);
-    reply_formed(answer)
+    Reply::from(form(word, k, out, scratch))
 }

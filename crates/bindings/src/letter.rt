@@ -9,7 +9,7 @@ use std::cmp::Ordering;
 
 /// A letter by its number, ordered by size.
 #[repr(C)]
-#[derive(Clone, Copy)]
+#[derive(Clone, Copy, PartialEq, Eq, PartialOrd, Ord)]
 pub struct Letter {
     pub number: u32,
 }
@@ -26,6 +26,6 @@ impl OrderedLetter for Letter {
     ghost onward = { Prim.search rules };
 
     fn compare(self, other: Letter) -> Ordering {
-        Ord::cmp(&self.number, &other.number)
+        self.cmp(&other)
     }
 }

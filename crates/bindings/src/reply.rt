@@ -1,8 +1,9 @@
 //! Answers as two numbers: what happened, and a length.
 
 ghost use Rattle.std.specs.Prelude.{◌≡◌};
-ghost use Rattle.bindings.specs.Replies.{refused, separated, formed};
+ghost use Rattle.bindings.specs.Replies.{separated, formed};
 
+use refusals::{Fault, Refusal};
 use words::{Side, Telling, WordFault};
 
 /// What a call answers: a number below 3, and the length of what was written; or the number of a refusal, and its place.
@@ -13,41 +14,47 @@ pub struct Reply {
     pub size: usize,
 }
 
-fn reply_refused(fault: WordFault) -> Reply
-    ensures { result ≡ refused fault }
-{
-    Reply {
-        number: fault.number() as u32,
-        size: fault.place(),
+impl From<Refusal> for Reply {
+    ghost from_gives = { λ refusal reply. (reply.number ≡ refusal.number) × (reply.size ≡ refusal.place) };
+
+    fn from(refusal: Refusal) -> Reply {
+        Reply {
+            number: u32::from(refusal.number),
+            size: refusal.place,
+        }
     }
 }
 
 /// 0 for equal words, 1 for a row of the left word, 2 for a row of the right word.
-pub(crate) fn reply_separated(answer: Result<Option<Telling>, WordFault>) -> Reply
-    ensures { result ≡ separated answer }
-{
-    match answer {
-        Ok(None) => Reply { number: 0, size: 0 },
-        Ok(Some(telling)) => Reply {
-            number: match telling.side {
-                Side::Left => 1,
-                Side::Right => 2,
+impl From<Result<Option<Telling>, WordFault>> for Reply {
+    ghost from_gives = { λ answer reply. reply ≡ separated answer };
+
+    fn from(answer: Result<Option<Telling>, WordFault>) -> Reply {
+        match answer {
+            Ok(None) => Reply { number: 0, size: 0 },
+            Ok(Some(Telling { length, side })) => Reply {
+                number: match side {
+                    Side::Left => 1,
+                    Side::Right => 2,
+                },
+                size: length,
             },
-            size: telling.length,
-        },
-        Err(fault) => reply_refused(fault),
+            Err(fault) => Reply::from(fault.refusal()),
+        }
     }
 }
 
 /// 0 for a form.
-pub(crate) fn reply_formed(answer: Result<usize, WordFault>) -> Reply
-    ensures { result ≡ formed answer }
-{
-    match answer {
-        Ok(length) => Reply {
-            number: 0,
-            size: length,
-        },
-        Err(fault) => reply_refused(fault),
+impl From<Result<usize, WordFault>> for Reply {
+    ghost from_gives = { λ answer reply. reply ≡ formed answer };
+
+    fn from(answer: Result<usize, WordFault>) -> Reply {
+        match answer {
+            Ok(length) => Reply {
+                number: 0,
+                size: length,
+            },
+            Err(fault) => Reply::from(fault.refusal()),
+        }
     }
 }

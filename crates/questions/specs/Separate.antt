@@ -1,9 +1,17 @@
 -- What asking two strips for the first row that tells them apart answers.
 use Rattle.std.specs.Prelude.{◌≡◌, ℕ, ◌+◌, ◌*◌, ◌<◌, ◌≤◌, min, List, length, Ok, Err, Option, Result}
+use Rattle.words.specs.declared.fault.WordFault.{WordFault}
+use Rattle.words.specs.declared.fault.WordFault.TheVariants.{TooLong, Scratch as WordScratch, Output as WordOutput}
 use Rattle.words.specs.declared.told.Telling.{Telling}
 use Rattle.words.specs.Separating.{Told}
 use Rattle.questions.specs.declared.fault.QuestionFault.{QuestionFault}
 use Rattle.questions.specs.declared.fault.QuestionFault.TheVariants.{Scratch, Output}
+
+-- What a question about words lacks is what one about strips lacks. A word that is too long is not on a strip.
+abbrev pub Lacks : WordFault → QuestionFault → Type 0
+Lacks (WordScratch wanted) fault = fault ≡ Scratch wanted
+Lacks (WordOutput wanted) fault = fault ≡ Output wanted
+Lacks TooLong fault = ⊥
 
 -- Asked of the words `left` and `right`, with what row memory and scratch held before and hold after. In this order it is
 -- refused unless the scratch has 16 numbers for each letter and 32 more, and unless the row memory has one letter more than

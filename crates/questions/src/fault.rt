@@ -1,7 +1,8 @@
 //! Why a question is refused.
 
-ghost use Rattle.std.specs.Prelude.{◌≡◌};
 ghost use Rattle.questions.specs.Faults.{question_fault};
+
+use refusals::{Fault, Refusal};
 
 /// A refusal, with the length that is wanted, which is its place.
 #[derive(Clone, Copy, PartialEq, Eq, Debug)]
@@ -12,22 +13,13 @@ pub enum QuestionFault {
     Output(usize),
 }
 
-impl QuestionFault {
-    pub fn number(self) -> u8
-        ensures { result ≡ (question_fault self).0 }
-    {
-        match self {
-            QuestionFault::Scratch(_) => 41,
-            QuestionFault::Output(_) => 42,
-        }
-    }
+impl Fault for QuestionFault {
+    ghost numbers = { question_fault };
 
-    pub fn place(self) -> usize
-        ensures { result ≡ (question_fault self).1 }
-    {
+    fn refusal(self) -> Refusal {
         match self {
-            QuestionFault::Scratch(wanted) => wanted,
-            QuestionFault::Output(wanted) => wanted,
+            QuestionFault::Scratch(place) => Refusal { number: 41, place },
+            QuestionFault::Output(place) => Refusal { number: 42, place },
         }
     }
 }

@@ -28,8 +28,9 @@ module _ {A : Type 0} where
   word_length s = length-take-le s.len (memory_of s) (omega (arith, s.fits))
 
   -- A call that writes nothing.
-  pub unwritten : (s t : Strip A) (call : Call A) (answer : Answer A) → memory_of t ≡ memory_of s → Rule (capacity_of s) (word_of s) call answer (word_of t) → Obeys s call answer t
-  unwritten s t call answer same rule = record { rule = rule; rest = ap (drop t.len) same; capacity = ap (λ m. min (length m) 4096) same }
+  pub unwritten : (s t : Strip A) (call : Call A) (answer : Answer A) → t.letters ≡ s.letters → Rule (capacity_of s) (word_of s) call answer (word_of t) → Obeys s call answer t
+  unwritten s t call answer same rule =
+      record { rule = rule; rest = ap (λ m. drop t.len m.now) same; capacity = ap (λ m. min (length m.now) 4096) same; lender = ap (λ m. m.ghost_name) same }
 
   -- A refusal, with the length that the code has for the word's.
   pub refused : (s : Strip A) (call : Call A) (number : ℕ) → Rule (capacity_of s) (word_of s) call (Refused number (length (word_of s))) (word_of s)
@@ -43,28 +44,29 @@ module _ {A : Type 0} where
   pub put_crowded : (s : Strip A) (a : A) → s.len < capacity_of s → (Admits a (word_of s) → ⊥) → Obeys s (Put a) (Refused 32 s.len) s
   put_crowded s a room not = refused s (Put a) 32 (crowded (omega (arith, word_length s)) not)
 
-  pub put_done : (s t : Strip A) (a : A) → t.len ≡ s.len + 1 → memory_of t ≡ set (memory_of s) s.len a → s.len < capacity_of s → Admits a (word_of s)
-      → Obeys s (Put a) Done t
-  put_done s t a longer written room admitted =
+  pub put_done : (s t : Strip A) (a : A) → t.len ≡ s.len + 1 → memory_of t ≡ set (memory_of s) s.len a → t.letters.ghost_name ≡ s.letters.ghost_name
+      → s.len < capacity_of s → Admits a (word_of s) → Obeys s (Put a) Done t
+  put_done s t a longer written lender room admitted =
       let word : word_of t ≡ word_of s ++ (a ∷ []) =
       ap (λ n. take n (memory_of t)) longer ∙ ap (take (s.len + 1)) written ∙ take_more_set (memory_of s) s.len a (omega arith) in
       record {
         rule = subst (Rule (capacity_of s) (word_of s) (Put a) Done) (sym word) (added (omega (arith, word_length s)) admitted);
         rest = ap (drop t.len) written ∙ drop-set-lt t.len (memory_of s) s.len a (omega (arith, longer));
         capacity = ap (λ n. min n 4096) (ap length written ∙ length-set (memory_of s) s.len a);
+        lender = lender;
       }
 
   pub take_empty : (s : Strip A) → s.len ≡ 0 → Obeys s Take (Refused 33 0) s
   take_empty s none = subst (λ n. Obeys s Take (Refused 33 n) s) none (refused s Take 33 (empty (ap (λ n. take n (memory_of s)) none)))
 
-  pub take_done : (s t : Strip A) (d : A) → s.len ≡ t.len + 1 → memory_of t ≡ memory_of s → Obeys s Take (Taken (get_or (memory_of s) t.len d)) t
+  pub take_done : (s t : Strip A) (d : A) → s.len ≡ t.len + 1 → t.letters ≡ s.letters → Obeys s Take (Taken (get_or (memory_of s) t.len d)) t
   take_done s t d shorter same =
       let held : t.len < length (memory_of s) = omega (arith, shorter, s.fits) in
       let word : word_of s ≡ word_of t ++ (get_or (memory_of s) t.len d ∷ []) =
-      ap (λ n. take n (memory_of s)) shorter ∙ take_more (memory_of s) t.len d held ∙ ap (λ m. take t.len m ++ (get_or (memory_of s) t.len d ∷ [])) (sym same) in
+      ap (λ n. take n (memory_of s)) shorter ∙ take_more (memory_of s) t.len d held ∙ ap (λ m. take t.len m.now ++ (get_or (memory_of s) t.len d ∷ [])) (sym same) in
       unwritten s t Take (Taken (get_or (memory_of s) t.len d)) same (removed word)
 
-  pub clear_done : (s t : Strip A) → t.len ≡ 0 → memory_of t ≡ memory_of s → Obeys s Clear Done t
+  pub clear_done : (s t : Strip A) → t.len ≡ 0 → t.letters ≡ s.letters → Obeys s Clear Done t
   clear_done s t none same =
       let word : word_of t ≡ [] = ap (λ n. take n (memory_of t)) none in
       unwritten s t Clear Done same (subst (Rule (capacity_of s) (word_of s) Clear Done) (sym word) cleared)

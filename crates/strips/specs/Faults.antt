@@ -1,5 +1,6 @@
 -- The refusals of a strip: each with its number and its place.
-use Rattle.std.specs.Prelude.{ℕ, List, ◌++◌, codes, decimal}
+use Rattle.std.specs.Prelude.{ℕ, List}
+use Rattle.refusals.specs.Texts.{refusal_text}
 use Rattle.strips.specs.declared.fault.StripFault.{StripFault}
 use Rattle.strips.specs.declared.fault.StripFault.TheVariants.{Full, TooManyKinds, Empty}
 
@@ -11,4 +12,4 @@ strip_fault Empty = (33, 0)
 
 -- How a refusal is shown: its number and its place.
 abbrev pub fault_text : StripFault → List ℕ
-fault_text f = codes "fault " ++ (decimal (strip_fault f).0 ++ (codes " at " ++ decimal (strip_fault f).1))
+fault_text f = refusal_text (strip_fault f).0 (strip_fault f).1

@@ -17,11 +17,12 @@ abbrev pub capacity_of : {A : Type 0} → Strip A → ℕ
 capacity_of s = min (length (memory_of s)) 4096
 
 -- A call on the strip s has this answer and leaves the strip t: answer and word are by the rule, the memory places after the
--- word hold what they held before, and there is as much room as before.
+-- word hold what they held before, and there is as much room as before, in the same lent memory.
 pub record Obeys {A : Type 0} (s : Strip A) (call : Call A) (answer : Answer A) (t : Strip A) : Type 0 where
   pub rule : Rule (capacity_of s) (word_of s) call answer (word_of t)
   pub rest : drop t.len (memory_of t) ≡ drop t.len (memory_of s)
   pub capacity : capacity_of t ≡ capacity_of s
+  pub lender : t.letters.ghost_name ≡ s.letters.ghost_name
 
 -- The answers as the rule has them.
 abbrev pub refusal : {A : Type 0} → StripFault → Answer A

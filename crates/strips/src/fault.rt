@@ -1,8 +1,9 @@
 //! Why a strip refuses a call.
 
-ghost use Rattle.std.specs.Prelude.{◌≡◌, Some};
+ghost use Rattle.std.specs.Prelude.{Some};
 ghost use Rattle.strips.specs.Faults.{strip_fault, fault_text};
 
+use refusals::{Fault, Refusal};
 use std::fmt;
 
 /// A refusal, with the length of the word, which is its place.
@@ -16,24 +17,17 @@ pub enum StripFault {
     Empty,
 }
 
-impl StripFault {
-    pub fn number(self) -> u8
-        ensures { result ≡ (strip_fault self).0 }
-    {
-        match self {
-            StripFault::Full(_) => 31,
-            StripFault::TooManyKinds(_) => 32,
-            StripFault::Empty => 33,
-        }
-    }
+impl Fault for StripFault {
+    ghost numbers = { strip_fault };
 
-    pub fn place(self) -> usize
-        ensures { result ≡ (strip_fault self).1 }
-    {
+    fn refusal(self) -> Refusal {
         match self {
-            StripFault::Full(length) => length,
-            StripFault::TooManyKinds(length) => length,
-            StripFault::Empty => 0,
+            StripFault::Full(place) => Refusal { number: 31, place },
+            StripFault::TooManyKinds(place) => Refusal { number: 32, place },
+            StripFault::Empty => Refusal {
+                number: 33,
+                place: 0,
+            },
         }
     }
 }
@@ -42,8 +36,6 @@ impl fmt::Display for StripFault {
     ghost output = { λ f. Some (fault_text f) };
 
     fn fmt<W: fmt::Write>(&self, f: &mut fmt::Formatter<W>) -> fmt::Result {
-        let number = self.number();
-        let place = self.place();
-        write!(f, "fault {number} at {place}")
+        self.refusal().fmt(f)
     }
 }

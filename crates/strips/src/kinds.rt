@@ -5,7 +5,6 @@ ghost use Rattle.strips.specs.Rule.{Admits};
 ghost use Rattle.strips.specs.Words.{In, AtMost};
 
 use letters::OrderedLetter;
-use std::cmp::Ordering;
 
 /// A strip holds 64 different letters: with this many, or fewer, it has room for a new one.
 const KINDS_WITH_ROOM: usize = 63;
@@ -20,12 +19,7 @@ pub(crate) fn admits<L: OrderedLetter>(word: &[L], letter: L) -> bool
 fn is_present<L: OrderedLetter>(word: &[L], letter: L) -> bool
     ensures { Decides result (In letter word.now) }
 {
-    for other in word {
-        if other.compare(letter) == Ordering::Equal {
-            return true;
-        }
-    }
-    false
+    word.iter().any(|other| other.compare(letter).is_eq())
 }
 
 /// Whether there are fewer than 64 different letters in the word. `filler` may be any letter.
@@ -40,12 +34,13 @@ fn has_room_for_a_kind<L: OrderedLetter>(word: &[L], filler: L) -> bool
 }
 
 /// Collects the different letters of the word in `found`: whether there is a place for each.
+// A slice with a count beside it: there is no heap here, and an `ArrayVec` wants a `Default`, which a letter need not have.
 fn kinds_fit<L: OrderedLetter>(word: &[L], found: &mut [L]) -> bool
     ensures { Decides result (AtMost (length found.old) word.now) }
 {
     let mut count = 0;
     for letter in word {
-        if !is_present(&found[0..count], *letter) {
+        if !is_present(&found[..count], *letter) {
             if count == found.len() {
                 return false;
             }

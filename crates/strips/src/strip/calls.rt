@@ -38,13 +38,12 @@ impl<'a, L: OrderedLetter> Strip<'a, L> {
         ensures size { length result.now ≤ capacity_of self.now }
         ensures kinds { AtMost 64 result.now }
     {
-        &self.letters[0..self.len]
+        &self.letters[..self.len]
     }
 
     /// Adds the letter at the end.
     pub fn put(&mut self, letter: L) -> Result<(), StripFault>
-        ensures outcome { Obeys self.old (Put letter) (put_answer result) self.new }
-        ensures lender { self.new.letters.ghost_name ≡ self.old.letters.ghost_name }
+        ensures { Obeys self.old (Put letter) (put_answer result) self.new }
     {
         let place = self.len;
         if place >= self.capacity() {
@@ -60,21 +59,18 @@ impl<'a, L: OrderedLetter> Strip<'a, L> {
 
     /// Removes the last letter, and answers it.
     pub fn take(&mut self) -> Result<L, StripFault>
-        ensures outcome { Obeys self.old Take (take_answer result) self.new }
-        ensures lender { self.new.letters.ghost_name ≡ self.old.letters.ghost_name }
+        ensures { Obeys self.old Take (take_answer result) self.new }
     {
-        if self.len == 0 {
+        let Some(last) = self.len.checked_sub(1) else {
             return Err(StripFault::Empty);
-        }
-        let place = self.len - 1;
-        self.len = place;
-        Ok(self.letters[place])
+        };
+        self.len = last;
+        Ok(self.letters[last])
     }
 
     /// Removes every letter.
     pub fn clear(&mut self)
-        ensures outcome { Obeys self.old Clear Done self.new }
-        ensures lender { self.new.letters.ghost_name ≡ self.old.letters.ghost_name }
+        ensures { Obeys self.old Clear Done self.new }
     {
         self.len = 0;
     }

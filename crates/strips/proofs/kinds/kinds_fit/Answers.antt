@@ -1,14 +1,9 @@
-use Rattle.std.proofs.Common.{◌≡◌, ℕ, ◌-◌, Bool, List, length, take, Decides, sym, ◌∙◌, subst, arith}
+use Rattle.std.proofs.Common.{◌≡◌, ℕ, List, length, sym, ◌∙◌, subst, arith}
 use Rattle.std.proofs.lemmas.Bool.Decides.{not_from_Decides}
-use Rattle.strips.specs.Words.{In}
 use Rattle.strips.proofs.Collecting.{Collected, collected_same, collected_new, collected_over, collected_all}
 use Rattle.strips.proofs.Deciding.{yes, no}
 use Rattle.strips.proofs.kinds.kinds_fit.Goals as goal
 use Rattle.strips.proofs.kinds.kinds_fit.Goals.{then-not-is_present+else-count-found, else-not-is_present}
-
--- `&found[0..count]` holds the first `count - 0` letters.
-front : {A : Type 0} (b : A) (found : List A) (count : ℕ) (r : Bool) → Decides r (In b (take (count - 0) found)) → Decides r (In b (take count found))
-front b found count r h = let same : count - 0 ≡ count = omega arith in subst (λ j. Decides r (In b (take j found))) same h
 
 is : {A : Type 0} (w : List A) (n i : ℕ) (found found' : List A) (count count' : ℕ) → found' ≡ found → count' ≡ count → Collected w n i found count → Collected w n i found' count'
 is w n i found found' count count' e f h = subst (λ x. Collected w n i x count') (sym e) (subst (Collected w n i found) (sym f) h)
@@ -18,14 +13,14 @@ returns-then-count-found g c =
     let l = c.loop-letter in
     let b = c.letter-item.result in
     no (collected_over c.args.word.now (length c.args.found.now) l.letter-index l.found l.count l.invariant b c.loop-letter-test.true c.letter-item.is
-    (not_from_Decides c.is_present.result (front b l.found l.count c.is_present.result c.is_present.ensures) c.if-not-is_present.true)
+    (not_from_Decides c.is_present.result c.is_present.ensures c.if-not-is_present.true)
     (c.if-count-found.true ∙ l.invariant.size))
 
 pub loop-letter-preserved : goal.loop-letter-preserved
 loop-letter-preserved g c =
     let l = c.loop-letter in
     let b = c.letter-item.result in
-    let present = front b l.found l.count c.is_present.result c.is_present.ensures in
+    let present = c.is_present.ensures in
     elim c.if-not-is_present.branch [
       | then-not-is_present+else-count-found w ↦
           is c.args.word.now (length c.args.found.now) _ _ _ _ _ w.found-is w.count-is

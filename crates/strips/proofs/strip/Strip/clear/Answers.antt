@@ -7,4 +7,4 @@ pub invariant_of-self : goal.invariant_of-self
 invariant_of-self g c = record { fits = omega arith; few = search (rules, few_none, few_fewer) }
 
 pub returns : goal.returns
-returns g c = record { outcome = clear_done c.args.self.now _ refl refl; lender = refl }
+returns g c = clear_done c.args.self.now _ refl refl

@@ -1,4 +1,4 @@
-use Rattle.std.proofs.Common.{refl, arith, rules}
+use Rattle.std.proofs.Common.{arith, rules}
 use Rattle.strips.proofs.Calls.{few_none, few_one}
 use Rattle.strips.proofs.OneOutcome.{rule_is_one}
 use Rattle.strips.proofs.strip.Strip.open.Goals as goal
@@ -7,5 +7,5 @@ use Rattle.strips.proofs.strip.Strip.open.Goals as goal
 pub invariant_of-result : goal.invariant_of-result
 invariant_of-result g c = record { fits = omega arith; few = search (rules, few_none, few_one) }
 
-pub returns : goal.returns
-returns g c = record { word = refl; memory = refl; lender = refl; law = rule_is_one g.row.L.Denot }
+pub returns-clause-law : goal.returns-clause-law
+returns-clause-law g c = rule_is_one g.row.L.Denot

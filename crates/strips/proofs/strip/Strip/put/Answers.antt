@@ -8,17 +8,12 @@ use Rattle.strips.proofs.Calls.{few_added, put_full, put_crowded, put_done}
 use Rattle.strips.proofs.strip.Strip.put.Goals as goal
 
 pub returns-then-place-capacity : goal.returns-then-place-capacity
-returns-then-place-capacity g c =
-    record { outcome = put_full c.args.self.now c.args.letter (omega (arith, c.if-place-capacity.true, c.capacity.ensures)); lender = refl {a = c.args.self.now.letters.ghost_name} }
+returns-then-place-capacity g c = put_full c.args.self.now c.args.letter (omega (arith, c.if-place-capacity.true, c.capacity.ensures))
 
 pub returns-then-not-admits : goal.returns-then-not-admits
 returns-then-not-admits g c =
     let not = not_from_Decides c.admits.result c.admits.ensures c.if-not-admits.true in
-    record {
-      outcome = put_crowded c.args.self.now c.args.letter (omega (arith, c.if-place-capacity.false, c.capacity.ensures))
-          (λ h. not (subst (Admits c.args.letter) (sym c.word.ensures.word) h));
-      lender = refl {a = c.args.self.now.letters.ghost_name};
-    }
+    put_crowded c.args.self.now c.args.letter (omega (arith, c.if-place-capacity.false, c.capacity.ensures)) (λ h. not (subst (Admits c.args.letter) (sym c.word.ensures.word) h))
 
 pub invariant_of-self : goal.invariant_of-self
 invariant_of-self g c =
@@ -36,4 +31,4 @@ returns g c =
     let s = c.args.self.now in
     let room : s.len < capacity_of s = omega (arith, c.if-place-capacity.false, c.capacity.ensures) in
     let admitted = subst (Admits c.args.letter) c.word.ensures.word (c.admits.ensures.0 c.if-not-admits.false) in
-    record { outcome = put_done s _ c.args.letter refl refl room admitted; lender = refl {a = c.args.self.now.letters.ghost_name} }
+    put_done s _ c.args.letter refl refl refl room admitted
