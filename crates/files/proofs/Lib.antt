@@ -2,9 +2,6 @@ pub mod Scanning
 pub mod Encoding
 pub mod Reading
 pub mod OneReading
-pub mod OneLetter
 pub mod Lines
 pub mod Progress
-pub mod Spelled
-pub mod Appending
 pub mod Commas

@@ -1,16 +1,16 @@
 -- What the loops of a listing keep true: the text so far is what was read so far.
-use Rattle.std.proofs.Common.{◌≡◌, ℕ, ◌+◌, ◌/◌, ◌%◌, ◌^◌, ◌<◌, ◌≤◌, List, [], ◌∷◌, ◌++◌, length, drop, Err, codes, decimal, sym, refl, ap, ◌∙◌, append_assoc, append-nil, arith, length-append, length-drop}
-use Rattle.std.proofs.lemmas.List.{length_push, flat_map_more}
+use Rattle.std.proofs.Common.{◌≡◌, ℕ, ◌+◌, ◌^◌, ◌<◌, List, [], ◌∷◌, ◌++◌, length, drop, Err, codes, decimal, sym, ap, ◌∙◌, append_assoc, append-nil, arith, length-drop}
+use Rattle.std.proofs.lemmas.List.{flat_map_more}
 use Rattle.std.specs.List.{AllByRecursion}
 use Rattle.files.specs.declared.number.NumberFault.{NumberFault}
 use Rattle.letters.specs.declared.kind.Kind.{Kind}
 use Rattle.letters.specs.Kinds.{IsCode}
 use Rattle.files.specs.declared.reader.Record.{Record}
 use Rattle.files.specs.Listing.{codes_text, entry_line}
-use Rattle.files.specs.Numbers.{marked, encode, Reads, NumberAt}
+use Rattle.files.specs.Numbers.{encode, Reads, NumberAt}
 use Rattle.files.specs.Records.{Entry, Allowed, Shows, encode_codes}
 use Rattle.files.proofs.Encoding.{encode_unique}
-use Rattle.files.proofs.OneReading.{front_stands, reads_no_fault, code_number}
+use Rattle.files.proofs.OneReading.{front_stands, reads_inside, reads_no_fault, code_number}
 
 -- The word cs was shown up to some place: `left` are the codes that are still to come.
 abbrev pub Split : List ℕ → ℕ → List ℕ → List ℕ → List ℕ → Type 0
@@ -21,16 +21,13 @@ Split bs at old text cs =
 pub record Shown (bs : List ℕ) (at : ℕ) (old text : List ℕ) : Type 0 where
   pub split : (cs : List ℕ) → AllByRecursion (λ n. n < 2 ^ 28) cs → bs ≡ encode_codes cs → Split bs at old text cs
 
-pub shown_none : (bs old : List ℕ) → Shown bs 0 old old
-shown_none bs old = record { split = λ cs small e. ([], cs, refl, small, e, sym (append-nil old)) }
-
 -- One code more was shown.
-pub shown_more : (bs old text text' : List ℕ) (at n next : ℕ) → Shown bs at old text → at < length bs → Reads bs at n next
+pub shown_more : (bs old text text' : List ℕ) (at n next : ℕ) → Shown bs at old text → Reads bs at n next
     → text' ≡ text ++ (codes " " ++ decimal n) → Shown bs next old text'
-shown_more bs old text text' at n next s inside (small, (p, q)) e = record { split = λ cs few whole. step cs (s.split cs few whole) }
+shown_more bs old text text' at n next s (small, (p, q)) e = record { split = λ cs few whole. step cs (s.split cs few whole) }
   where
     step : (cs : List ℕ) → Split bs at old text cs → Split bs next old text' cs
-    step cs (shown, [], whole, few, here, said) = absurd (omega (arith, ap length here, length-drop at bs))
+    step cs (shown, [], whole, few, here, said) = absurd (reads_inside bs at n next (small, (p, q)) (omega (arith, ap length here, length-drop at bs)))
     step cs (shown, c ∷ left, whole, few, here, said) =
         let (is, rest) = encode_unique n c (drop next bs) (encode_codes left) (sym p ∙ here) in (
           shown ++ (c ∷ []),
@@ -42,25 +39,15 @@ shown_more bs old text text' at n next s inside (small, (p, q)) e = record { spl
               ∙ flat_map_more (λ c. codes " " ++ decimal c) old shown c,
         )
 
--- At the end all of the word was shown.
-pub shown_all : (bs old text : List ℕ) (at : ℕ) → Shown bs at old text → length bs ≤ at → (cs : List ℕ) → AllByRecursion (λ n. n < 2 ^ 28) cs → bs ≡ encode_codes cs
-    → text ≡ old ++ codes_text cs
-shown_all bs old text at s end cs few whole = go (s.split cs few whole)
+-- Where no number stands, all of the word was shown: a word's bytes have one at each of its codes.
+pub shown_all : (bs old text : List ℕ) (at : ℕ) (f : NumberFault) → Shown bs at old text → NumberAt bs at (Err f)
+    → (cs : List ℕ) → AllByRecursion (λ n. n < 2 ^ 28) cs → bs ≡ encode_codes cs → text ≡ old ++ codes_text cs
+shown_all bs old text at f s fault cs few whole = go (s.split cs few whole)
   where
     go : Split bs at old text cs → text ≡ old ++ codes_text cs
     go (shown, [], whole, few, here, said) = said ∙ ap (λ x. old ++ codes_text x) (sym (whole ∙ append-nil shown))
     go (shown, c ∷ left, whole, few, here, said) =
-        absurd (omega (arith, ap length here, length-drop at bs, length-append (encode c) (encode_codes left), length_push (marked (c / 128)) (c % 128)))
-
--- A word's bytes have a number at each of its codes.
-pub shown_number : (bs old text : List ℕ) (at : ℕ) (f : NumberFault) → Shown bs at old text → at < length bs → NumberAt bs at (Err f)
-    → (cs : List ℕ) → AllByRecursion (λ n. n < 2 ^ 28) cs → bs ≡ encode_codes cs → ⊥
-shown_number bs old text at f s inside fault cs few whole = go (s.split cs few whole)
-  where
-    go : Split bs at old text cs → ⊥
-    go (shown, [], whole, few, here, said) = omega (arith, ap length here, length-drop at bs)
-    go (shown, c ∷ left, whole, few, here, said) =
-        reads_no_fault bs at c (at + length (encode c)) f (few.0, (front_stands bs (encode c) (encode_codes left) at here).1) fault
+        absurd (reads_no_fault bs at c (at + length (encode c)) f (few.0, (front_stands bs (encode c) (encode_codes left) at here).1) fault)
 
 -- Texts that are added one after the other.
 added : (old a b c : List ℕ) {one two three : List ℕ} → one ≡ old ++ a → two ≡ one ++ b → three ≡ two ++ c → three ≡ old ++ (a ++ (b ++ c))

@@ -1,17 +1,16 @@
 -- Bytes are read in one way: where an allowed record stands, the reader gives that record.
 use Rattle.std.proofs.Common.{◌≡◌, ℕ, ◌+◌, ◌/◌, ◌%◌, ◌<◌, ◌≤◌, List, [], ◌∷◌, ◌++◌, length, drop, Some, None, Ok, Err, Option, Result, sym, refl, ap, ◌∙◌, subst, inl, inr, append_assoc, arith, length-append, length-drop}
 use Rattle.std.proofs.lemmas.List.{length_push, drop-drop, drop_at}
-use Rattle.std.proofs.lemmas.Bool.Decides.{nat_tests}
 use Rattle.letters.specs.declared.kind.Kind.{Kind}
 use Rattle.letters.specs.declared.kind.Kind.TheVariants.{Modes, Taps}
-use Rattle.letters.specs.Kinds.{IsCode, kind_number, kind_of}
+use Rattle.letters.specs.Kinds.{IsCode}
 use Rattle.files.specs.declared.fault.FileFault.{FileFault}
 use Rattle.files.specs.declared.fault.FileFault.TheVariants.{Number, InRecord, UnknownKind, PlateNotRising, CountTooLarge, NotACode}
 use Rattle.files.specs.declared.number.NumberFault.{NumberFault}
 use Rattle.files.specs.declared.reader.Record.{Record}
 use Rattle.files.specs.declared.reader.Reader.{Reader}
 use Rattle.files.specs.Numbers.{marked, encode, Stands, Reads, NumberAt}
-use Rattle.files.specs.Records.{Entry, Allowed, Gives, encode_codes, encode_entry, CodesRead, HeadRead, CountDue, CodeDue, RecordFault, Next, NextRead, Opened, OpensAs, OpenRead}
+use Rattle.files.specs.Records.{Entry, Allowed, Gives, encode_codes, encode_entry, CodesRead, HeadRead, CountDue, CodeDue, RecordFault, Next, NextRead}
 use Rattle.files.proofs.Encoding.{encode_unique, number_only}
 
 -- Bytes that come first stand at their place,
@@ -137,29 +136,3 @@ record_only a (Err f) b (inside, fault, same) e j allowed s = no_fault a.kind a.
 
 pub next_read : (a : Reader) (r : Result (Option Record) FileFault) (b : Reader) → Next a r b → NextRead a r b
 next_read a r b h = record { answer = h; only = record_only a r b h }
-
-same_kind : (k l : Kind) → kind_number k ≡ kind_number l → k ≡ l
-same_kind Modes Modes e = refl
-same_kind Modes Taps e = absurd (omega arith)
-same_kind Taps Modes e = absurd (omega arith)
-same_kind Taps Taps e = refl
-
-pub kind_from : (n : ℕ) (k : Kind) → Some k ≡ kind_of n → n ≡ kind_number k
-kind_from n k e = grind (arith, nat_tests)
-
-known_kind : (k : Kind) (n : ℕ) → n ≡ kind_number k → kind_of n ≡ None → ⊥
-known_kind Modes n e none = let z : ◌≡◌ {A = ℕ} 0 1 = cc (ap kind_of e) in omega arith
-known_kind Taps n e none = let z : ◌≡◌ {A = ℕ} 0 1 = cc (ap kind_of e) in omega arith
-
--- Where the number of a kind stands first, a reader of that kind is opened.
-open_only : (bs : List ℕ) (r : Result Reader FileFault) → Opened bs r → (k : Kind) (j : ℕ) → Reads bs 0 (kind_number k) j → OpensAs k j r
-open_only bs (Ok a) (here, last, bytes) k j s = let same = reads_unique bs 0 (kind_number a.kind) (kind_number k) a.at j here s in (same_kind a.kind k same.0, same.1)
-open_only bs (Err (Number f)) h k j s = reads_no_fault bs 0 (kind_number k) j f s h
-open_only bs (Err (UnknownKind p)) (here, n, m, s', none) k j s = known_kind k n (reads_unique bs 0 n (kind_number k) m j s' s).0 none
-open_only bs (Err (InRecord f p)) h k j s = h
-open_only bs (Err (PlateNotRising p)) h k j s = h
-open_only bs (Err (CountTooLarge p)) h k j s = h
-open_only bs (Err (NotACode p)) h k j s = h
-
-pub open_read : (bs : List ℕ) (r : Result Reader FileFault) → Opened bs r → OpenRead bs r
-open_read bs r h = record { answer = h; only = open_only bs r h }

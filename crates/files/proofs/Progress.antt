@@ -1,5 +1,5 @@
 -- What a listing keeps true from record to record: the entries read so far are told, and counted.
-use Rattle.std.proofs.Common.{◌≡◌, ℕ, ◌+◌, ◌/◌, ◌%◌, ◌<◌, ◌≤◌, List, [], ◌∷◌, ◌++◌, length, drop, Some, None, Ok, Err, sym, refl, ap, ◌∙◌, subst, append_assoc, append-nil, arith, length-append, length-drop}
+use Rattle.std.proofs.Common.{◌≡◌, ℕ, ◌+◌, ◌/◌, ◌%◌, ◌<◌, ◌≤◌, List, [], ◌∷◌, ◌++◌, length, Some, None, Ok, Err, sym, refl, ap, ◌∙◌, subst, append_assoc, append-nil, arith, length-append}
 use Rattle.std.proofs.lemmas.List.{length_push, flat_map_more, drop_all}
 use Rattle.std.specs.List.{flat_map}
 use Rattle.letters.specs.declared.kind.Kind.{Kind}
@@ -109,18 +109,6 @@ module _ (a₀ : Reader) (old : List ℕ) (a : Reader) (text : List ℕ) (plates
             (subst (λ k. RecordFault k a₀.bytes.now a.last a.at f) s.same_kind
             (subst (λ x. RecordFault a.kind x.now a.last a.at f) s.same_bytes fault)),
         e ∙ ap (λ x. x ++ fault_line f) s.said ∙ append_assoc old (flat_map entry_line es) (fault_line f),
-      )
-
-  -- The reader goes on with each record, so that a listing ends, and what it counts is no more than the bytes.
-  pub progress_forward : (r : Record) (b : Reader) → Next a (Ok (Some r)) b
-      → (a.at < b.at) × (b.at ≤ length a.bytes.now) × (length b.bytes.now ≡ length a.bytes.now) × ((plates + 1) + (letters + r.count) ≤ b.at)
-  progress_forward r b (e, allowed, stands, shows, same) =
-      let long = entry_long e in
-      let part = ap length stands.0 in (
-        omega (arith, stands.1),
-        omega (arith, stands.1, part, length-drop a.at a.bytes.now, length-drop b.at a.bytes.now, length-append (encode_entry e) (drop b.at a.bytes.now)),
-        ap (λ x. length x.bytes.now) same,
-        omega (arith, s.passed, stands.1, shows.1),
       )
 
 -- One entry more at the end.

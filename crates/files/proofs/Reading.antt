@@ -7,6 +7,7 @@ use Rattle.letters.specs.Kinds.{IsCode}
 use Rattle.files.specs.declared.fault.FileFault.{FileFault}
 use Rattle.files.specs.declared.fault.FileFault.TheVariants.{InRecord}
 use Rattle.files.specs.declared.number.NumberFault.{NumberFault}
+use Rattle.files.specs.declared.reader.Reader.{Reader}
 use Rattle.files.specs.Numbers.{marked, encode, Stands, Reads, NumberAt}
 use Rattle.files.specs.Records.{encode_codes, CodesRead, HeadRead, CountDue, CodeDue, RecordFault, Entry, Allowed, encode_entry}
 use Rattle.files.specs.Steps.{CodeFault}
@@ -16,9 +17,10 @@ pub number_fault_lem : (k : Kind) (bs : List ℕ) (last i j : ℕ) (fault : File
     → (f : NumberFault) × (fault ≡ InRecord f i) × NumberAt bs j (Err f) → RecordFault k bs last i fault
 number_fault_lem k bs last i j fault due (f, e, h) = rw e (refl, j, due, h)
 
-pub code_fault : (k : Kind) (bs : List ℕ) (last i j : ℕ) (fault : FileFault) → CodeDue k bs last i j → CodeFault k bs j i fault → RecordFault k bs last i fault
-code_fault k bs last i j fault due (inl h) = number_fault_lem k bs last i j fault (inr (inr due)) h
-code_fault k bs last i j fault due (inr (n, m, e, r, h)) = rw e (due, n, m, r, h)
+pub code_fault : (a : Reader) (j : ℕ) (fault : FileFault) → CodeDue a.kind a.bytes.now a.last a.at j → CodeFault a j fault
+    → RecordFault a.kind a.bytes.now a.last a.at fault
+code_fault a j fault due (inl h) = number_fault_lem a.kind a.bytes.now a.last a.at j fault (inr (inr due)) h
+code_fault a j fault due (inr (n, m, e, r, h)) = rw e (due, n, m, r, h)
 
 -- Bytes that stand one after the other.
 pub stands_none : (bs : List ℕ) (i : ℕ) → Stands bs i [] i
@@ -29,9 +31,6 @@ stands_append bs s t i j k (p, q) (p', q') =
     (p ∙ ap (λ x. s ++ x) p' ∙ sym (append_assoc s t (drop k bs)), omega (arith, q, q', length-append s t))
 
 -- One code more.
-pub codes_none : (k : Kind) (bs : List ℕ) (i : ℕ) → CodesRead k bs i [] i
-codes_none k bs i = (stands_none bs i, tt)
-
 pub codes_more : (k : Kind) (bs cs : List ℕ) (i j n m : ℕ) → CodesRead k bs i cs j → Reads bs j n m → IsCode k n → CodesRead k bs i (cs ++ (n ∷ [])) m
 codes_more k bs cs i j n m (s, all) (small, t) code =
     (rw (← flat_map_more encode [] cs n) (stands_append bs (encode_codes cs) (encode n) i j m s t), All-push (IsCode k) cs n all code)

@@ -1,5 +1,6 @@
 -- The faults of a word file: each with its number, its place, and the place of the record that it was met in.
-use Rattle.std.specs.Prelude.{ℕ, List, ◌++◌, Some, None, codes, decimal, Option}
+use Rattle.std.specs.Prelude.{ℕ, List, Some, None, Option}
+use Rattle.refusals.specs.Texts.{refusal_text}
 use Rattle.files.specs.declared.fault.FileFault.{FileFault}
 use Rattle.files.specs.declared.fault.FileFault.TheVariants.{Number, InRecord, UnknownKind, PlateNotRising, CountTooLarge, NotACode}
 use Rattle.files.specs.Numbers.{number_fault}
@@ -24,4 +25,4 @@ fault_record (NotACode place) = None
 
 -- How a fault is shown: its number and its place.
 abbrev pub fault_text : FileFault → List ℕ
-fault_text f = codes "fault " ++ (decimal (file_fault f).0 ++ (codes " at " ++ decimal (file_fault f).1))
+fault_text f = refusal_text (file_fault f).0 (file_fault f).1

@@ -1,4 +1,5 @@
-pub mod Spelling
+pub mod Outputs
+pub mod OutputLaws
 pub mod Numbers
 pub mod Faults
 pub mod Records

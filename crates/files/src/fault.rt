@@ -1,10 +1,12 @@
 //! What can be wrong with a word file.
 
 ghost use Rattle.std.specs.Prelude.{◌≡◌, Some};
-ghost use Rattle.files.specs.declared.fault.FileFault.TheVariants.{Number as NumberOutside};
+ghost use Rattle.files.specs.declared.fault.FileFault.TheVariants.{Number as NumberOutside, UnknownKind as KindUnknown};
 ghost use Rattle.files.specs.Faults.{file_fault, fault_record, fault_text};
 
 use crate::number::NumberFault;
+use letters::UnknownKind;
+use refusals::{Fault, Refusal};
 use std::fmt;
 
 /// A fault of a word file, with the place where the number that it is about starts.
@@ -24,33 +26,22 @@ pub enum FileFault {
     NotACode(usize),
 }
 
+impl Fault for FileFault {
+    ghost numbers = { file_fault };
+
+    fn refusal(self) -> Refusal {
+        match self {
+            FileFault::Number(fault) => fault.refusal(),
+            FileFault::InRecord(fault, _) => fault.refusal(),
+            FileFault::UnknownKind(place) => Refusal { number: 21, place },
+            FileFault::PlateNotRising(place) => Refusal { number: 22, place },
+            FileFault::CountTooLarge(place) => Refusal { number: 23, place },
+            FileFault::NotACode(place) => Refusal { number: 24, place },
+        }
+    }
+}
+
 impl FileFault {
-    pub fn number(self) -> u8
-        ensures { result ≡ (file_fault self).0 }
-    {
-        match self {
-            FileFault::Number(fault) => fault.number(),
-            FileFault::InRecord(fault, _) => fault.number(),
-            FileFault::UnknownKind(_) => 21,
-            FileFault::PlateNotRising(_) => 22,
-            FileFault::CountTooLarge(_) => 23,
-            FileFault::NotACode(_) => 24,
-        }
-    }
-
-    pub fn place(self) -> usize
-        ensures { result ≡ (file_fault self).1 }
-    {
-        match self {
-            FileFault::Number(fault) => fault.place(),
-            FileFault::InRecord(fault, _) => fault.place(),
-            FileFault::UnknownKind(place) => place,
-            FileFault::PlateNotRising(place) => place,
-            FileFault::CountTooLarge(place) => place,
-            FileFault::NotACode(place) => place,
-        }
-    }
-
     /// The first byte of the record in which a number had its own fault.
     pub fn record(self) -> Option<usize>
         ensures { result ≡ fault_record self }
@@ -66,9 +57,7 @@ impl fmt::Display for FileFault {
     ghost output = { λ f. Some (fault_text f) };
 
     fn fmt<W: fmt::Write>(&self, f: &mut fmt::Formatter<W>) -> fmt::Result {
-        let number = self.number();
-        let place = self.place();
-        write!(f, "fault {number} at {place}")
+        self.refusal().fmt(f)
     }
 }
 
@@ -78,5 +67,14 @@ impl From<NumberFault> for FileFault {
 
     fn from(fault: NumberFault) -> FileFault {
         FileFault::Number(fault)
+    }
+}
+
+/// The kind is what a file begins with.
+impl From<UnknownKind> for FileFault {
+    ghost from_gives = { λ _ r. r ≡ KindUnknown 0 };
+
+    fn from(_: UnknownKind) -> FileFault {
+        FileFault::UnknownKind(0)
     }
 }

@@ -5,8 +5,8 @@ mod fault;
 mod line;
 mod listing;
 mod number;
+mod output;
 mod reader;
-mod spelling;
 mod word;
 
 pub use fault::FileFault;

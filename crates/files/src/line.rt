@@ -1,11 +1,11 @@
-//! The line that tells two plates apart, written into lent bytes.
+//! The lines of a run, written into lent bytes: of two plates, and of a refusal.
 
-ghost use Rattle.std.specs.Prelude.{◌≡◌, ◌+◌, ◌<◌, ◌≤◌, ◌∷◌, map, length, decimal, MatchBool};
+ghost use Rattle.std.specs.Prelude.{◌≡◌, ℕ, List, map};
 ghost use Rattle.files.specs.Line.{write_fault, text_of_side, comma_text, row_text, line_text, refusal_text, Wrote};
-ghost use Rattle.files.specs.Steps.{Appends, Fitting};
 
-use crate::spelling::{put_spelled, spelled_len};
+use crate::output::{Filler, Output, Room};
 use letters::CodedLetter;
+use refusals::{Fault, Refusal};
 use words::Side;
 
 /// Why nothing was written.
@@ -15,124 +15,112 @@ pub enum WriteFault {
     NoRoom(usize),
 }
 
-impl WriteFault {
-    pub fn number(self) -> u8
-        ensures { result ≡ (write_fault self).0 }
-    {
+impl Fault for WriteFault {
+    ghost numbers = { write_fault };
+
+    fn refusal(self) -> Refusal {
         match self {
-            WriteFault::NoRoom(_) => 51,
-        }
-    }
-
-    pub fn place(self) -> usize
-        ensures { result ≡ (write_fault self).1 }
-    {
-        match self {
-            WriteFault::NoRoom(place) => place,
+            WriteFault::NoRoom(place) => Refusal { number: 51, place },
         }
     }
 }
 
-/// Writes the number in decimal at `at`, and answers the place behind it.
-fn put_decimal(out: &mut [u8], at: usize, number: u64) -> usize
-    requires { at + length (decimal number) ≤ length out.old }
-    ensures { Appends out.old at (decimal number) result out.new }
-{
-    let len = spelled_len(10, number);
-    put_spelled(out, at, len, 10, b'0', b'0', number);
-    at + len
+/// A text that outputs are given.
+// Not `std::fmt::Display`, since an output is no `std::fmt::Write`.
+trait Text {
+    /// The bytes of the text.
+    ghost text: { Self → List ℕ };
+
+    /// Gives the output the text.
+    fn put<O: Output>(&self, output: &mut O)
+    where
+        Self: Sized,
+        ensures { O.took output.old (text self.now) output.new };
 }
 
-/// Writes the text at `at`, and answers the place behind it.
-fn put_text(out: &mut [u8], at: usize, text: &[u8]) -> usize
-    requires { at + length text.now ≤ length out.old }
-    ensures { Appends out.old at text.now result out.new }
+/// Writes the text into the first bytes of `out`, and answers how many these are. It is measured first, so that a
+/// refusal changes nothing.
+fn write_text<T: Text>(text: &T, out: &mut [u8]) -> Result<usize, WriteFault>
+    ensures { Wrote out.old (T.text text.now) result out.new }
 {
-    let end = at + text.len();
-    out[at..end].copy_from_slice(text);
-    end
+    let mut room = Room {
+        left: Some(out.len()),
+    };
+    text.put(&mut room);
+    if room.left.is_none() {
+        return Err(WriteFault::NoRoom(0));
+    }
+    let mut filler = Filler { out, filled: 0 };
+    text.put(&mut filler);
+    Ok(filler.filled)
 }
 
-/// How many bytes the codes of the row have with a comma before each; none where that exceeds the room.
-fn commas_len<L: CodedLetter>(row: &[L], room: usize) -> Option<usize>
-    ensures { Fitting (length (comma_text (map L.code row.now))) room result }
+/// The line of two plates, and the row that tells them apart.
+#[derive(Drop)]
+struct PlatesLine<'a, L> {
+    first: u32,
+    second: u32,
+    side: Side,
+    row: &'a [L],
+}
+
+impl<L: CodedLetter> Text for PlatesLine<'_, L> {
+    ghost text = { λ line. line_text line.first line.second line.side (map L.code line.row.now) };
+
+    fn put<O: Output>(&self, output: &mut O) {
+        output.put_number(self.first);
+        output.put(" ");
+        output.put_number(self.second);
+        put_row(output, self.side, self.row);
+    }
+}
+
+/// Puts what follows the two plates: the degree, the side and the codes of the row.
+fn put_row<O: Output, L: CodedLetter>(output: &mut O, side: Side, row: &[L])
+    ensures { O.took output.old (row_text side (map L.code row.now)) output.new }
 {
-    let mut len = 0;
+    let Some((first, rest)) = row.split_first() else {
+        output.put(" = - -\n");
+        return;
+    };
+    output.put(" ");
+    output.put_number(rest.len());
+    output.put(side_text(side));
+    output.put_number(first.code());
+    put_commas(output, rest);
+    output.put("\n");
+}
+
+/// Puts the codes of the row, a comma before each.
+fn put_commas<O: Output, L: CodedLetter>(output: &mut O, row: &[L])
+    ensures { O.took output.old (comma_text (map L.code row.now)) output.new }
+{
     for letter in row {
-        let more = spelled_len(10, letter.code() as u64) + 1;
-        if more > room - len {
-            return None;
-        }
-        len += more;
+        output.put(",");
+        output.put_number(letter.code());
     }
-    Some(len)
-}
-
-/// Writes the codes of the row, a comma before each.
-fn put_commas<L: CodedLetter>(out: &mut [u8], at: usize, row: &[L]) -> usize
-    requires { at + length (comma_text (map L.code row.now)) ≤ length out.old }
-    ensures { Appends out.old at (comma_text (map L.code row.now)) result out.new }
-{
-    let mut end = at;
-    for letter in row {
-        end = put_text(out, end, b",");
-        end = put_decimal(out, end, letter.code() as u64);
-    }
-    end
 }
 
 /// The side as it stands in a line.
-fn side_text(side: Side) -> &'static [u8]
+fn side_text(side: Side) -> &'static str
     ensures { result.now ≡ text_of_side side }
 {
     match side {
-        Side::Left => b" L ",
-        Side::Right => b" R ",
+        Side::Left => " L ",
+        Side::Right => " R ",
     }
 }
 
-/// Writes what follows the plates where a row, with this first letter, tells them apart.
-fn put_row<L: CodedLetter>(out: &mut [u8], at: usize, side: Side, first: L, rest: &[L]) -> usize
-    requires { at + length (row_text side (L.code first ∷ map L.code rest.now)) ≤ length out.old }
-    ensures { Appends out.old at (row_text side (L.code first ∷ map L.code rest.now)) result out.new }
-{
-    let degree = put_text(out, at, b" ");
-    let sign = put_decimal(out, degree, rest.len() as u64);
-    let letter = put_text(out, sign, side_text(side));
-    let letters = put_decimal(out, letter, first.code() as u64);
-    let end = put_commas(out, letters, rest);
-    put_text(out, end, b"\n")
-}
+/// The line of a refusal, `fault N at P`.
+impl Text for Refusal {
+    ghost text = { λ refusal. refusal_text refusal.number refusal.place };
 
-/// How long the part of the line behind the plates is; none where that exceeds the room.
-fn row_len<L: CodedLetter>(row: &[L], room: usize) -> Option<usize>
-    ensures { (side : Side) → Fitting (length (row_text side (map L.code row.now))) room result }
-{
-    if row.is_empty() {
-        return if 7 <= room { Some(7) } else { None };
-    }
-    let rest = &row[1..];
-    let fixed = 5 + spelled_len(10, rest.len() as u64) + spelled_len(10, row[0].code() as u64);
-    if fixed > room {
-        return None;
-    }
-    match commas_len(rest, room - fixed) {
-        Some(codes) => Some(fixed + codes),
-        None => None,
-    }
-}
-
-/// Is there room for the line?
-fn line_fits<L: CodedLetter>(first: u32, second: u32, row: &[L], room: usize) -> bool
-    ensures { (side : Side) → MatchBool result (length (line_text first second side (map L.code row.now)) ≤ room) (room < length (line_text first second side (map L.code row.now))) }
-{
-    let plates = spelled_len(10, first as u64) + 1 + spelled_len(10, second as u64);
-    if plates > room {
-        return false;
-    }
-    match row_len(row, room - plates) {
-        Some(_) => true,
-        None => false,
+    fn put<O: Output>(&self, output: &mut O) {
+        output.put("fault ");
+        output.put_number(self.number);
+        output.put(" at ");
+        output.put_number(self.place);
+        output.put("\n");
     }
 }
 
@@ -148,31 +136,19 @@ pub fn write_line<L: CodedLetter>(
 ) -> Result<usize, WriteFault>
     ensures { Wrote out.old (line_text first second side (map L.code row.now)) result out.new }
 {
-    if !line_fits(first, second, row, out.len()) {
-        return Err(WriteFault::NoRoom(0));
-    }
-    let space = put_decimal(out, 0, first as u64);
-    let plate = put_text(out, space, b" ");
-    let end = put_decimal(out, plate, second as u64);
-    if row.is_empty() {
-        Ok(put_text(out, end, b" = - -\n"))
-    } else {
-        Ok(put_row(out, end, side, row[0], &row[1..]))
-    }
+    let line = PlatesLine {
+        first,
+        second,
+        side,
+        row,
+    };
+    write_text(&line, out)
 }
 
 /// Writes the line of a refusal, `fault N at P`, into the first bytes of `out`, and answers how many these
 /// are.
-pub fn write_refusal(number: u8, place: usize, out: &mut [u8]) -> Result<usize, WriteFault>
-    ensures { Wrote out.old (refusal_text number place) result out.new }
+pub fn write_refusal(refusal: Refusal, out: &mut [u8]) -> Result<usize, WriteFault>
+    ensures { Wrote out.old (refusal_text refusal.number refusal.place) result out.new }
 {
-    let digits = spelled_len(10, number as u64) + spelled_len(10, place as u64);
-    if out.len() < b"fault  at \n".len() + digits {
-        return Err(WriteFault::NoRoom(0));
-    }
-    let first = put_text(out, 0, b"fault ");
-    let middle = put_decimal(out, first, number as u64);
-    let second = put_text(out, middle, b" at ");
-    let end = put_decimal(out, second, place as u64);
-    Ok(put_text(out, end, b"\n"))
+    write_text(&refusal, out)
 }

@@ -7,63 +7,51 @@ ghost use Rattle.files.specs.Listing.{Listed, codes_text, entry_line};
 ghost use Rattle.files.specs.Steps.{RecordsListed};
 ghost use Rattle.files.specs.Records.{Entry, Allowed, Shows, encode_codes};
 
-use crate::number::read_number;
+use crate::number::{Number, read_number};
 use crate::reader::{Reader, Record};
 use std::alloc::{AllocError, Global};
 
 /// Adds the codes in `bytes`, a space before each.
-fn push_codes(text: &mut String, heap: Global, bytes: &[u8]) -> Result<(), AllocError>
+fn push_codes(text: &mut String, bytes: &[u8]) -> Result<(), AllocError>
     ensures { OnOk result ((cs : List ℕ) → AllByRecursion (λ n. n < 2 ^ 28) cs → bytes.now ≡ encode_codes cs → string_bytes text.new ≡ string_bytes text.old ++ codes_text cs) }
 {
     let mut at = 0;
-    while at < bytes.len() {
-        let Ok(number) = read_number(bytes, at) else {
-            return Ok(());
-        };
-        let code = number.value;
-        let shown = format!(in heap; " {code}")?;
-        text.push_str(shown.as_str())?;
-        at = number.next;
+    while let Ok(Number { value, next }) = read_number(bytes, at) {
+        write!(text, " {value}")?;
+        at = next;
     }
     Ok(())
 }
 
 /// Adds the line of a record.
-fn push_record(text: &mut String, heap: Global, item: Record<'_>) -> Result<(), AllocError>
+fn push_record(text: &mut String, item: Record<'_>) -> Result<(), AllocError>
     ensures { OnOk result ((k : Kind) (last place : ℕ) (e : Entry) → Allowed k last e → Shows e place item.entry → string_bytes text.new ≡ string_bytes text.old ++ entry_line e) }
 {
     let plate = item.plate;
-    let shown = format!(in heap; "{plate}:")?;
-    text.push_str(shown.as_str())?;
-    push_codes(text, heap, item.codes)?;
-    text.push_str("\n")?;
-    Ok(())
+    write!(text, "{plate}:")?;
+    push_codes(text, item.codes)?;
+    writeln!(text)
 }
 
 /// Adds the records that the reader has before it, and the totals or the fault that ends them.
-fn push_records(text: &mut String, heap: Global, reader: &mut Reader<'_>) -> Result<(), AllocError>
+fn push_records(text: &mut String, reader: &mut Reader<'_>) -> Result<(), AllocError>
     ensures { OnOk result (reader.old.last ≡ 0 → reader.old.at ≤ length reader.old.bytes.now → (out : List ℕ) × RecordsListed reader.old.kind reader.old.bytes.now reader.old.at out × (string_bytes text.new ≡ string_bytes text.old ++ out)) }
 {
     let mut plates = 0u64;
     let mut letters = 0u64;
     loop {
-        let next = match reader.next() {
-            Ok(next) => next,
-            Err(fault) => {
-                let line = format!(in heap; "{fault}\n")?;
-                text.push_str(line.as_str())?;
-                return Ok(());
+        match reader.next() {
+            Ok(Some(record)) => {
+                push_record(text, record)?;
+                plates += 1;
+                letters += u64::from(record.count);
             }
-        };
-        let Some(item) = next else {
-            let bytes = reader.place();
-            let line = format!(in heap; "# {plates} plates, {letters} letters, {bytes} bytes\n")?;
-            text.push_str(line.as_str())?;
-            return Ok(());
-        };
-        push_record(text, heap, item)?;
-        plates += 1;
-        letters += item.count as u64;
+            Ok(None) => {
+                let bytes = reader.place();
+                return writeln!(text, "# {plates} plates, {letters} letters, {bytes} bytes");
+            }
+            Err(fault) => return writeln!(text, "{fault}"),
+        }
     }
 }
 
@@ -75,14 +63,11 @@ pub fn list(heap: Global, bytes: &[u8]) -> Result<String, AllocError>
     match Reader::open(bytes) {
         Ok(mut reader) => {
             let kind = reader.kind();
-            let number = kind.number();
+            let number = u8::from(kind);
             let mut text = format!(in heap; "kind {number} {kind}\n")?;
-            push_records(&mut text, heap, &mut reader)?;
+            push_records(&mut text, &mut reader)?;
             Ok(text)
         }
-        Err(fault) => {
-            let text = format!(in heap; "{fault}\n")?;
-            Ok(text)
-        }
+        Err(fault) => format!(in heap; "{fault}\n"),
     }
 }

@@ -1,7 +1,8 @@
 //! Numbers in bytes: groups of seven bits, high group first, the shortest form, at most four bytes.
 
-ghost use Rattle.std.specs.Prelude.{◌≡◌};
 ghost use Rattle.files.specs.Numbers.{NumberRead, number_fault};
+
+use refusals::{Fault, Refusal};
 
 /// A number as it was read: its value, and the place after its last byte.
 #[derive(Clone, Copy, PartialEq, Eq, Debug)]
@@ -21,24 +22,14 @@ pub enum NumberFault {
     TooLong(usize),
 }
 
-impl NumberFault {
-    pub fn number(self) -> u8
-        ensures { result ≡ (number_fault self).0 }
-    {
-        match self {
-            NumberFault::Missing(_) => 11,
-            NumberFault::Padded(_) => 12,
-            NumberFault::TooLong(_) => 13,
-        }
-    }
+impl Fault for NumberFault {
+    ghost numbers = { number_fault };
 
-    pub fn place(self) -> usize
-        ensures { result ≡ (number_fault self).1 }
-    {
+    fn refusal(self) -> Refusal {
         match self {
-            NumberFault::Missing(place) => place,
-            NumberFault::Padded(place) => place,
-            NumberFault::TooLong(place) => place,
+            NumberFault::Missing(place) => Refusal { number: 11, place },
+            NumberFault::Padded(place) => Refusal { number: 12, place },
+            NumberFault::TooLong(place) => Refusal { number: 13, place },
         }
     }
 }
@@ -50,24 +41,22 @@ const GROUPS: usize = 4;
 pub fn read_number(bytes: &[u8], at: usize) -> Result<Number, NumberFault>
     ensures { NumberRead bytes.now at result }
 {
-    let mut value = 0u32;
-    let mut place = at;
+    let mut value = 0;
     for group in 0..GROUPS {
-        if place >= bytes.len() {
+        let place = at + group;
+        let Some(&byte) = bytes.get(place) else {
             return Err(NumberFault::Missing(place));
-        }
-        let byte = bytes[place];
+        };
         if group == 0 && byte == 0x80 {
             return Err(NumberFault::Padded(place));
         }
-        value = value * 128 + (byte % 0x80) as u32;
+        value = value * 128 + u32::from(byte % 0x80);
         if byte < 0x80 {
             return Ok(Number {
                 value,
                 next: place + 1,
             });
         }
-        place += 1;
     }
-    Err(NumberFault::TooLong(place - 1))
+    Err(NumberFault::TooLong(at + GROUPS - 1))
 }

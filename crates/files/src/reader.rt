@@ -32,21 +32,31 @@ pub struct Reader<'a> {
     last: u32,
 }
 
+/// The numbers that a record begins with.
+#[derive(Clone, Copy)]
+struct Head {
+    plate: u32,
+    count: u32,
+    /// The place of the first code.
+    codes: usize,
+}
+
+/// The letters that a record has at most.
+const MOST_LETTERS: u32 = 4096;
+
 impl<'a> Reader<'a> {
     /// Reads the kind of the file in `bytes`, and stands before its first record.
     pub fn open(bytes: &'a [u8]) -> Result<Reader<'a>, FileFault>
         ensures { OpenRead bytes.now result }
     {
         let number = read_number(bytes, 0)?;
-        match Kind::from_number(number.value) {
-            Some(kind) => Ok(Reader {
-                bytes,
-                kind,
-                at: number.next,
-                last: 0,
-            }),
-            None => Err(FileFault::UnknownKind(0)),
-        }
+        let kind = Kind::try_from(number.value)?;
+        Ok(Reader {
+            bytes,
+            kind,
+            at: number.next,
+            last: 0,
+        })
     }
 
     /// The kind of the file.
@@ -60,91 +70,69 @@ impl<'a> Reader<'a> {
     pub fn place(&self) -> usize
         ensures { result ≡ self.now.at }
     {
-        let here = self.at;
-        here
+        self.at
     }
 
     /// Reads the next record, or none at the end. After a fault the reader is as it was.
+    // Not an `Iterator`: one that answers its fault at each later call too has no end that a `for` could be proved by.
     pub fn next(&mut self) -> Result<Option<Record<'a>>, FileFault>
         ensures { NextRead self.old result self.new }
     {
-        let bytes = self.bytes;
         let place = self.at;
-        if place >= bytes.len() {
+        if place >= self.bytes.len() {
             return Ok(None);
         }
-        let Head { plate, count, next } = read_head(bytes, place, self.last)?;
-        let end = codes_end(self.kind, bytes, next, count, place)?;
-        self.at = end;
-        self.last = plate;
-        let codes = &bytes[next..end];
+        let head = self.head()?;
+        let end = self.codes_end(head)?;
+        let codes = &self.bytes[head.codes..end];
+        (self.at, self.last) = (end, head.plate);
         Ok(Some(Record {
-            plate,
-            count,
+            plate: head.plate,
+            count: head.count,
             place,
             codes,
         }))
     }
-}
 
-/// Passes over the codes of the record at `place`, from `start` on, and answers where they end.
-fn codes_end(
-    kind: Kind,
-    bytes: &[u8],
-    start: usize,
-    count: u32,
-    place: usize,
-) -> Result<usize, FileFault>
-    ensures { CodesAt kind bytes.now start count place result }
-{
-    let mut at = start;
-    for _code in 0..count {
-        let number = number_in_record(bytes, at, place)?;
-        if !kind.is_code(number.value) {
-            return Err(FileFault::NotACode(at));
+    /// Reads a number of the record that is next.
+    fn number(&self, at: usize) -> Result<Number, FileFault>
+        ensures { NumberIn self.now at result }
+    {
+        let place = self.at;
+        read_number(self.bytes, at).map_err(|fault| FileFault::InRecord(fault, place))
+    }
+
+    /// Reads the plate and the count of the record that is next.
+    fn head(&self) -> Result<Head, FileFault>
+        ensures { HeadAt self.now result }
+    {
+        let plate = self.number(self.at)?;
+        if plate.value <= self.last {
+            return Err(FileFault::PlateNotRising(self.at));
         }
-        at = number.next;
+        let count = self.number(plate.next)?;
+        if count.value > MOST_LETTERS {
+            return Err(FileFault::CountTooLarge(plate.next));
+        }
+        Ok(Head {
+            plate: plate.value,
+            count: count.value,
+            codes: count.next,
+        })
     }
-    Ok(at)
-}
 
-/// The letters that a record has at most.
-const MOST_LETTERS: u32 = 4096;
-
-/// The numbers that a record begins with.
-#[derive(Clone, Copy)]
-struct Head {
-    plate: u32,
-    count: u32,
-    /// The place of the first code.
-    next: usize,
-}
-
-/// Reads a number of the record at `place`.
-fn number_in_record(bytes: &[u8], at: usize, place: usize) -> Result<Number, FileFault>
-    ensures { NumberIn bytes.now at place result }
-{
-    match read_number(bytes, at) {
-        Ok(number) => Ok(number),
-        Err(fault) => Err(FileFault::InRecord(fault, place)),
+    /// Passes over the codes of the record that is next, behind its head, and answers where they end.
+    fn codes_end(&self, head: Head) -> Result<usize, FileFault>
+        ensures { CodesAt self.now head result }
+    {
+        let mut at = head.codes;
+        for _code in 0..head.count {
+            let number = self.number(at)?;
+            if !self.kind.is_code(number.value) {
+                return Err(FileFault::NotACode(at));
+            }
+            at = number.next;
+        }
+        Ok(at)
     }
-}
-
-/// Reads the plate and the count of the record at `place`, after a record of the plate `last`.
-fn read_head(bytes: &[u8], place: usize, last: u32) -> Result<Head, FileFault>
-    ensures { HeadAt bytes.now last place result }
-{
-    let plate = number_in_record(bytes, place, place)?;
-    if plate.value <= last {
-        return Err(FileFault::PlateNotRising(place));
-    }
-    let count = number_in_record(bytes, plate.next, place)?;
-    if count.value > MOST_LETTERS {
-        return Err(FileFault::CountTooLarge(plate.next));
-    }
-    Ok(Head {
-        plate: plate.value,
-        count: count.value,
-        next: count.next,
-    })
 }

@@ -58,13 +58,9 @@ fn numbers_at_their_edges(rt: HostRuntime) {
 
 /// What the first record of these bytes is refused for.
 fn first_fault(bytes: &[u8]) -> Option<FileFault> {
-    match Reader::open(bytes) {
-        Ok(mut reader) => match reader.next() {
-            Ok(_) => None,
-            Err(fault) => Some(fault),
-        },
-        Err(fault) => Some(fault),
-    }
+    Reader::open(bytes)
+        .and_then(|mut reader| reader.next())
+        .err()
 }
 
 #[test]

@@ -31,6 +31,7 @@ impl<'a, L: CodedLetter> Letters<'a, L> {
 
     /// Reads the next letter, or none at the end of the bytes. After a fault nothing has changed, and
     /// its place counts from the first of the code bytes.
+    // Not an `Iterator`, as `Reader` is none.
     pub fn next(&mut self) -> Result<Option<L>, FileFault>
         ensures answer { LetterRead L.kind L.InRange L.code self.old.codes.now self.old.at result self.new.at }
         ensures same_bytes { self.new.codes ≡ self.old.codes }
@@ -39,12 +40,10 @@ impl<'a, L: CodedLetter> Letters<'a, L> {
             return Ok(None);
         }
         let number = read_number(self.codes, self.at)?;
-        match L::from_code(number.value) {
-            Some(letter) => {
-                self.at = number.next;
-                Ok(Some(letter))
-            }
-            None => Err(FileFault::NotACode(self.at)),
-        }
+        let Some(letter) = L::from_code(number.value) else {
+            return Err(FileFault::NotACode(self.at));
+        };
+        self.at = number.next;
+        Ok(Some(letter))
     }
 }
