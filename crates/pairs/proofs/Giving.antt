@@ -1,5 +1,6 @@
 -- The record that a reader gives is that of a plate: its codes are those of a word.
-use Rattle.std.proofs.Common.{◌≡◌, ℕ, List, [], ◌∷◌, map, Some, None, Ok, Option, sym, refl, ap, ◌∙◌, subst, MatchOption}
+use Rattle.std.proofs.Common.{◌≡◌, ℕ, List, [], ◌∷◌, map, Some, None, Ok, Err, Option, Result, sym, refl, ap, ◌∙◌, subst, MatchOption}
+use Rattle.std.specs.Prelude.{MatchResult, IsErrAnd}
 use Rattle.std.specs.List.{AllByRecursion}
 use Rattle.letters.specs.declared.kind.Kind.{Kind}
 use Rattle.letters.specs.Kinds.{IsCode}
@@ -62,3 +63,14 @@ module _ {L : Type 0} (kind : Kind) (InRange : L → Type 0) (letter : ℕ → O
             bytes = bytes ∙ ap encode_codes (sym are);
             place = place;
           }
+
+-- What `map_err` gave shows what it was given.
+module _ {A E D : Type 0} (P : E → D → Type 0) where
+  pub was_ok : (r : Result A E) (r' : Result A D) (x : A) → MatchResult r (λ y. r' ≡ Ok y) (λ e. IsErrAnd r' (P e)) → r' ≡ Ok x → r ≡ Ok x
+  was_ok (Ok y) r' x h is = let same : ◌≡◌ {A = Result A D} (Ok y) (Ok x) = sym h ∙ is in cc
+  was_ok (Err e) r' x h is = absurd (subst (λ q. IsErrAnd q (P e)) is h)
+
+  pub was_err : (r : Result A E) (r' : Result A D) (d : D) → MatchResult r (λ y. r' ≡ Ok y) (λ e. IsErrAnd r' (P e)) → r' ≡ Err d
+      → (e : E) × (r ≡ Err e) × P e d
+  was_err (Ok y) r' d h is = let same : ◌≡◌ {A = Result A D} (Ok y) (Err d) = sym h ∙ is in cc
+  was_err (Err e) r' d h is = (e, refl, subst (λ q. IsErrAnd q (P e)) is h)

@@ -88,5 +88,5 @@ module _ {L : Type 0} where
   codes_of code InRange small (a ∷ w) (h, hs) = (small a h, codes_of code InRange small w hs)
 
 -- A short line is not refused.
-pub refused_room : (old text new : List ℕ) (f : WriteFault) → 4096 ≤ length old → length text ≤ 51 → Wrote old text (Err f) new → ⊥
-refused_room old text new (NoRoom place) room short (none, is, same) = omega (arith, none)
+pub refused_room : (old text new : List ℕ) (f : WriteFault) → Wrote old text (Err f) new → length text ≤ 51 → 4096 ≤ length old → ⊥
+refused_room old text new (NoRoom place) (none, is, same) short room = omega (arith, none)

@@ -3,6 +3,7 @@ use Rattle.std.proofs.Common.{◌≡◌, ℕ, ◌^◌, ◌<◌, ◌≤◌, Bool,
 use lib.ListN.{length-map}
 use Rattle.std.proofs.lemmas.List.{take_at}
 use Rattle.std.specs.List.{AllByRecursion}
+use Rattle.std.specs.declared.io.Error.{Error}
 use Rattle.letters.specs.declared.kind.Kind.{Kind}
 use Rattle.words.specs.declared.told.Telling.{Telling}
 use Rattle.words.specs.declared.told.Side.TheVariants.{Left}
@@ -16,11 +17,14 @@ use Rattle.files.specs.declared.line.WriteFault.TheVariants.{NoRoom}
 use Rattle.files.specs.declared.reader.Reader.{Reader}
 use Rattle.pairs.specs.declared.fault.RunFault.{RunFault}
 use Rattle.pairs.specs.declared.fault.RunFault.TheVariants.{FileTooLong, File, Record, Question, Write}
+use Rattle.pairs.specs.declared.memory.Memory.{Memory}
 use Rattle.pairs.specs.declared.stepping.NextLine.{NextLine}
+use Rattle.pairs.specs.declared.stop.Stop.TheVariants.{Refused, Unprinted}
 use Rattle.pairs.specs.Plates.{Plate, Given, Holds, Overfull, Loaded}
+use Rattle.pairs.specs.Memories.{Room}
 use Rattle.pairs.specs.Compared.{told_line}
-use Rattle.pairs.specs.Runs.{Line, equal, told, Ends, file_ends, record_refused, word_refused, fault_line, none_taken, one_taken}
-use Rattle.pairs.specs.Steps.{StepAnswer, Room, Standing, Advanced}
+use Rattle.pairs.specs.Runs.{Line, equal, told, Ends, file_ends, record_refused, word_refused, fault_line}
+use Rattle.pairs.specs.Steps.{StepAnswer, Standing, Advanced}
 use Rattle.pairs.proofs.Lengths.{line_short, row_all, codes_of}
 
 module _ {L : Type 0} (lt : L → L → Type 0) (kind : Kind) (InRange : L → Type 0) (code : L → ℕ) (small : (a : L) → InRange a → code a ≤ 268435455) where
@@ -40,8 +44,8 @@ module _ {L : Type 0} (lt : L → L → Type 0) (kind : Kind) (InRange : L → T
       let long = length-take t.length row' in
       line_short p.number q.number t.side (map code z) m n (omega (arith, length-map z code, long, first.few)) (codes_of code InRange small z (row_all InRange z p.word q.word t.side first.side g h))
 
-  module _ (a b : Reader) (p : Plate L) (s t : Strip L) (row row' : List L) (scratch scratch' line line' : List ℕ)
-      (room : Room row scratch line) (same_kind : a.kind ≡ kind) (full : capacity_of s ≡ 400) (ranged : AllByRecursion InRange p.word) (few : length p.word ≤ 400) (number : p.number < 2 ^ 32) where
+  module _ (a b : Reader) (p : Plate L) (s t : Strip L) (m m' : Memory L)
+      (room : Room m) (same_kind : a.kind ≡ kind) (full : capacity_of s ≡ 400) (ranged : AllByRecursion InRange p.word) (few : length p.word ≤ 400) (number : p.number < 2 ^ 32) where
     -- The line that a step has written.
     pub record Stepped (next : NextLine) : Type 0 where
       pub word : List L
@@ -49,24 +53,22 @@ module _ {L : Type 0} (lt : L → L → Type 0) (kind : Kind) (InRange : L → T
       pub loaded : Loaded s word (Ok tt) t
       pub text : List ℕ
       pub line_of : Line lt kind InRange code p (record { number = next.plate; word = word }) text
-      pub written : take next.length line' ≡ text
-      pub inside : next.length ≤ length line
+      pub written : take next.length m'.line.now ≡ text
 
-    pub step_line : (next : NextLine) → StepAnswer lt kind InRange code a p s row scratch line (Ok (Some next)) b t row' scratch' line' → Stepped next
-    step_line next (w, given, loaded, (answer, asked, (long, inside, line-is))) =
+    pub step_line : (next : NextLine) → StepAnswer lt kind InRange code a p s m (Ok (Some next)) b t m' → Stepped next
+    step_line next (w, given, loaded, ((answer, asked, (long, inside, line-is)), loans)) =
         let q : Plate L = record { number = next.plate; word = w } in
-        let text = told_line lt code p q row' answer in
+        let text = told_line lt code p q m'.row.now answer in
         record {
           word = w;
           given = given;
           loaded = loaded;
           text = text;
-          line_of = asked_line p q row row' scratch scratch' answer asked;
-          written = ap (take next.length) line-is ∙ take_at text (drop next.length line) next.length (sym long);
-          inside = inside;
+          line_of = asked_line p q m.row.now m'.row.now m.scratch.now m'.scratch.now answer asked;
+          written = ap (take next.length) line-is ∙ take_at text (drop next.length m.line.now) next.length (sym long);
         }
 
-    not_asked : (q : Plate L) (f : QuestionFault) → length q.word ≤ 400 → Asked lt p.word q.word row scratch (Err f) row' scratch' → ⊥
+    not_asked : (q : Plate L) (f : QuestionFault) → length q.word ≤ 400 → Asked lt p.word q.word m.row.now m.scratch.now (Err f) m'.row.now m'.scratch.now → ⊥
     not_asked q (Scratch wanted) h (is, less, kept, spare) = omega (arith, is, less, h, few, room.scratch_room)
     not_asked q (Output wanted) h (enough, is, less, kept, spare) = omega (arith, is, less, h, few, room.row_room)
 
@@ -74,64 +76,58 @@ module _ {L : Type 0} (lt : L → L → Type 0) (kind : Kind) (InRange : L → T
     held q (word, holds, behind) = omega (arith, holds.0, full)
 
     -- A refusal ends the run.
-    pub step_ends : (f : RunFault) → StepAnswer lt kind InRange code a p s row scratch line (Err f) b t row' scratch' line'
+    pub step_ends : (f : RunFault) → StepAnswer lt kind InRange code a p s m (Err f) b t m'
         → Ends lt kind InRange code a.bytes.now a.last a.at (fault_line f ∷ [])
     step_ends (File f) ((inl (other, is), kept, on), untouched) = absurd (other same_kind)
     step_ends (File f) ((inr (same, inside, fault), kept, on), untouched) = record_refused f inside fault
     step_ends (Record f place) ((q, given, here, (over, behind)), untouched) =
         subst (λ n. Ends lt kind InRange code a.bytes.now a.last a.at (fault_line (Record f n) ∷ [])) (sym here)
         (word_refused q b.at (word_of t) f given.letters given.allowed given.stands (subst (λ n. Overfull n q.word (word_of t) f) full over))
-    step_ends (Question f) (q, given, loaded, (asked, same)) = absurd (not_asked q f (held q loaded) asked)
-    step_ends (Write (NoRoom place)) (q, given, loaded, (answer, asked, (short, none, same))) =
+    step_ends (Question f) (q, given, loaded, ((asked, same), loans)) = absurd (not_asked q f (held q loaded) asked)
+    step_ends (Write (NoRoom place)) (q, given, loaded, ((answer, asked, (short, none, same)), loans)) =
         let plate : q.number < 2 ^ 32 = omega (arith, given.allowed.number) in
-        absurd (omega (arith, short, room.line_room, asked_short p q row row' scratch scratch' answer number plate ranged given.letters few asked))
+        absurd
+        (omega (arith, short, room.line_room, asked_short p q m.row.now m'.row.now m.scratch.now m'.scratch.now answer number plate ranged given.letters few asked))
     step_ends FileTooLong h = absurd h
 
-    pub step_none : StepAnswer lt kind InRange code a p s row scratch line (Ok None) b t row' scratch' line' → Ends lt kind InRange code a.bytes.now a.last a.at []
+    pub step_none : StepAnswer lt kind InRange code a p s m (Ok None) b t m' → Ends lt kind InRange code a.bytes.now a.last a.at []
     step_none ((same, end, kept, on), untouched) = file_ends end
 
--- The same with the printing. What is said of an error is the same for every error.
+-- The same with the printing.
 module _ {L S : Type 0} (lt : L → L → Type 0) (kind : Kind) (InRange : L → Type 0) (code : L → ℕ) (small : (a : L) → InRange a → code a ≤ 268435455)
-    (took : S → List ℕ → Bool → S → Type 0) (a b : Reader) (number : ℕ) (earlier s t : Strip L) (row row' : List L) (scratch scratch' line line' : List ℕ) (from to : S)
-    (room : Room row scratch line) (standing : Standing kind InRange a earlier s) (narrow : number < 2 ^ 32) where
+    (took : S → List ℕ → Bool → S → Type 0) (a b : Reader) (number : ℕ) (earlier s t : Strip L) (m m' : Memory L) (from to : S)
+    (room : Room m) (standing : Standing kind InRange a earlier s) (narrow : number < 2 ^ 32) where
   abbrev Plate' : Plate L
   Plate' = record { number = number; word = word_of earlier }
 
   few : length (word_of earlier) ≤ 400
   few = omega (arith, word_length earlier, earlier.fits, standing.earlier_size)
 
-  line_of : (next : NextLine) → StepAnswer lt kind InRange code a Plate' s row scratch line (Ok (Some next)) b t row' scratch' line'
-      → Stepped lt kind InRange code small a b Plate' s t row row' scratch scratch' line line' room standing.same_kind standing.later_size standing.letters few narrow next
-  line_of next = step_line lt kind InRange code small a b Plate' s t row row' scratch scratch' line line' room standing.same_kind standing.later_size standing.letters few narrow next
+  line_of : (next : NextLine) → StepAnswer lt kind InRange code a Plate' s m (Ok (Some next)) b t m'
+      → Stepped lt kind InRange code small a b Plate' s t m m' room standing.same_kind standing.later_size standing.letters few narrow next
+  line_of next = step_line lt kind InRange code small a b Plate' s t m m' room standing.same_kind standing.later_size standing.letters few narrow next
 
-  ends_by : (f : RunFault) → StepAnswer lt kind InRange code a Plate' s row scratch line (Err f) b t row' scratch' line'
-      → Ends lt kind InRange code a.bytes.now a.last a.at (fault_line f ∷ [])
-  ends_by = step_ends lt kind InRange code small a b Plate' s t row row' scratch scratch' line line' room standing.same_kind standing.later_size standing.letters few narrow
+  module _ (next : NextLine) (n : Option NextLine) (n-is : n ≡ Some next) (answer : StepAnswer lt kind InRange code a Plate' s m (Ok n) b t m') where
+    here : StepAnswer lt kind InRange code a Plate' s m (Ok (Some next)) b t m'
+    here = subst (λ x. StepAnswer lt kind InRange code a Plate' s m (Ok x) b t m') n-is answer
 
-  module _ (next : NextLine) (n : Option NextLine) (n-is : n ≡ Some next) (answer : StepAnswer lt kind InRange code a Plate' s row scratch line (Ok n) b t row' scratch' line') where
-    here : StepAnswer lt kind InRange code a Plate' s row scratch line (Ok (Some next)) b t row' scratch' line'
-    here = subst (λ x. StepAnswer lt kind InRange code a Plate' s row scratch line (Ok x) b t row' scratch' line') n-is answer
-
-    pub advanced_line : took from (take next.length line') true to → Advanced lt kind InRange code took {E = Unit {0}} a Plate' s from (Ok (Some next.plate)) b t to
+    pub advanced_line : took from (take next.length m'.line.now) true to → Advanced lt kind InRange code took a Plate' s from (Ok (Some next.plate)) b t to
     advanced_line taken =
         let x = line_of next here in
         (x.word, x.given, x.loaded, x.text, x.line_of, subst (λ l. took from l true to) x.written taken)
 
-    pub unprinted_line : (e : Unit {0}) → took from (take next.length line') false to → Advanced lt kind InRange code took a Plate' s from (Err e) b t to
+    pub unprinted_line : (e : Error) → took from (take next.length m'.line.now) false to → Advanced lt kind InRange code took a Plate' s from (Err (Unprinted e)) b t to
     unprinted_line e taken =
         let x = line_of next here in
-        (x.text, subst (λ l. took from l false to) x.written taken, inl (_, x.given, subst (λ c. Holds c x.word) standing.later_size x.loaded.1, x.line_of))
+        (_, x.given, subst (λ c. Holds c x.word) standing.later_size x.loaded.1, x.text, x.line_of, subst (λ l. took from l false to) x.written taken)
 
-  pub advanced_fault : (f : RunFault) → StepAnswer lt kind InRange code a Plate' s row scratch line (Err f) b t row' scratch' line'
-      → took from (fault_line f) true to → Advanced lt kind InRange code took {E = Unit {0}} a Plate' s from (Ok None) b t to
-  advanced_fault f answer taken = (fault_line f ∷ [], ends_by f answer, one_taken [] from (fault_line f) to none_taken taken)
+  pub advanced_fault : (f : RunFault) → StepAnswer lt kind InRange code a Plate' s m (Err f) b t m' → to ≡ from
+      → Advanced lt kind InRange code took a Plate' s from (Err (Refused f)) b t to
+  advanced_fault f answer same =
+      (step_ends lt kind InRange code small a b Plate' s t m m' room standing.same_kind standing.later_size standing.letters few narrow f answer, same)
 
-  pub unprinted_fault : (f : RunFault) (e : Unit {0}) → StepAnswer lt kind InRange code a Plate' s row scratch line (Err f) b t row' scratch' line'
-      → took from (fault_line f) false to → Advanced lt kind InRange code took a Plate' s from (Err e) b t to
-  unprinted_fault f e answer taken = (fault_line f, taken, inr (ends_by f answer))
-
-  pub advanced_end : (n : Option NextLine) → n ≡ None → StepAnswer lt kind InRange code a Plate' s row scratch line (Ok n) b t row' scratch' line'
-      → Advanced lt kind InRange code took {E = Unit {0}} a Plate' s from (Ok None) b t from
-  advanced_end n is answer =
-      let ((same, end, kept, on), untouched) = subst (λ x. StepAnswer lt kind InRange code a Plate' s row scratch line (Ok x) b t row' scratch' line') is answer in
-      ([], file_ends end, none_taken)
+  pub advanced_end : (n : Option NextLine) → n ≡ None → StepAnswer lt kind InRange code a Plate' s m (Ok n) b t m' → to ≡ from
+      → Advanced lt kind InRange code took a Plate' s from (Ok None) b t to
+  advanced_end n is answer same =
+      let ((kind-is, end, kept, on), untouched) = subst (λ x. StepAnswer lt kind InRange code a Plate' s m (Ok x) b t m') is answer in
+      (file_ends end, same)

@@ -1,5 +1,6 @@
 -- Putting a word on a strip letter by letter, as its codes are read: what stays true, and how it ends.
-use Rattle.std.proofs.Common.{◌≡◌, ℕ, ◌+◌, ◌-◌, ◌≤◌, List, [], ◌∷◌, ◌++◌, map, length, drop, Some, None, Ok, Err, Option, Result, sym, refl, ap, ◌∙◌, subst, append_assoc, append-nil, arith, length-drop, MatchOption}
+use Rattle.std.proofs.Common.{◌≡◌, ℕ, ◌+◌, ◌-◌, ◌≤◌, List, [], ◌∷◌, ◌++◌, map, length, drop, Some, None, Ok, Err, Option, Result, sym, refl, ap, ◌∙◌, subst, append_assoc, append-nil, arith, rules, length-drop, MatchOption}
+use Rattle.std.specs.Prelude.{IsOk}
 use Rattle.std.proofs.lemmas.List.{length_push, drop-drop}
 use Rattle.std.specs.List.{AllByRecursion}
 use Rattle.letters.specs.declared.kind.Kind.{Kind}
@@ -75,8 +76,9 @@ module _ {L : Type 0} (kind : Kind) (InRange : L → Type 0) (letter : ℕ → O
   none_left bs at e = omega (arith, ap length e, length-drop at bs)
 
   -- It meets no fault;
-  pub part_no_fault : (bs : List ℕ) (at j : ℕ) (u w : List L) (f : FileFault) → Part InRange code bs at u w → LetterRead kind InRange code bs at (Err f) j → ⊥
-  part_no_fault bs at j u w f p r = go p.rest p.ranged p.bytes
+  pub part_no_fault : (bs : List ℕ) (at j : ℕ) (u w : List L) (r : Result (Option L) FileFault) → Part InRange code bs at u w → LetterRead kind InRange code bs at r j → IsOk r
+  part_no_fault bs at j u w (Ok n) p r = search rules
+  part_no_fault bs at j u w (Err f) p r = absurd (go p.rest p.ranged p.bytes)
     where
       go : (rest : List L) → AllByRecursion InRange rest → drop at bs ≡ encode_codes (map code rest) → ⊥
       go [] h e = no_fault bs at j f (none_left bs at e) r.answer
@@ -124,7 +126,7 @@ module _ {L : Type 0} (kind : Kind) (InRange : L → Type 0) (letter : ℕ → O
       record {
         part = λ w h e. record { rest = w; split = ap (λ u. u ++ w) (sym none); ranged = h; bytes = ap (λ n. drop n bs) first ∙ e };
         holds = subst (Holds (capacity_of s)) (sym none) (omega arith, at_most_none 64);
-        behind = (refl, refl);
+        behind = record { rest = refl; capacity = refl; lender = refl };
       }
 
   further : (m n : ℕ) (x y : List L) → m ≤ n → drop m x ≡ drop m y → drop n x ≡ drop n y
@@ -137,13 +139,17 @@ module _ {L : Type 0} (kind : Kind) (InRange : L → Type 0) (letter : ℕ → O
       → Obeys s (Put a) Done t → Loading InRange code bs s₀ t j
   loading_more bs s₀ s t at j a l r o =
       let word : word_of t ≡ word_of s ++ (a ∷ []) = put_word o.rule in
-      let same = l.behind.1 in
+      let same = l.behind.capacity in
       let rule = subst (λ n. Rule n (word_of s) (Put a) Done (word_of t)) same o.rule in
       let longer : s.len ≤ t.len = omega (arith, ap length word, word_length s, word_length t, length_push (word_of s) a) in
       record {
         part = λ w h e. subst (λ u. Part InRange code bs j u w) (sym word) (part_more bs at j (word_of s) w a (l.part w h e) r).more;
         holds = (keeps_capacity rule l.holds.0, keeps_kinds rule l.holds.1);
-        behind = (o.rest ∙ further s.len t.len (memory_of s) (memory_of s₀) longer l.behind.0, o.capacity ∙ same);
+        behind = record {
+          rest = o.rest ∙ further s.len t.len (memory_of s) (memory_of s₀) longer l.behind.rest;
+          capacity = o.capacity ∙ same;
+          lender = o.lender ∙ l.behind.lender;
+        };
       }
 
   -- or it was refused.
@@ -163,7 +169,8 @@ module _ {L : Type 0} (kind : Kind) (InRange : L → Type 0) (letter : ℕ → O
 
   -- From the strip as it was before it was cleared.
   cleared_behind : (s s₀ t : Strip L) → Obeys s Clear Done s₀ → Behind s₀ t → Behind s t
-  cleared_behind s s₀ t o (rest, capacity) = (rest ∙ ap (drop t.len) (clear_memory s s₀ o), capacity ∙ o.capacity)
+  cleared_behind s s₀ t o b =
+      record { rest = b.rest ∙ ap (drop t.len) (clear_memory s s₀ o); capacity = b.capacity ∙ o.capacity; lender = b.lender ∙ o.lender }
 
   pub loaded_end : (bs : List ℕ) (s s₀ t : Strip L) (at j : ℕ) → Obeys s Clear Done s₀ → Loading InRange code bs s₀ t at → LetterRead kind InRange code bs at (Ok None) j
       → (w : List L) → AllByRecursion InRange w → bs ≡ encode_codes (map code w) → Loaded s w (Ok tt) t
@@ -171,22 +178,26 @@ module _ {L : Type 0} (kind : Kind) (InRange : L → Type 0) (letter : ℕ → O
       let all = part_end bs at j (word_of t) w (l.part w h e) r in
       (all, subst (λ n. Holds n w) o.capacity (subst (Holds (capacity_of s₀)) all l.holds), cleared_behind s s₀ t o l.behind)
 
-  pub loaded_refused : (bs : List ℕ) (s s₀ t t' : Strip L) (at j : ℕ) (a : L) (f : StripFault) → Obeys s Clear Done s₀ → Loading InRange code bs s₀ t at
-      → LetterRead kind InRange code bs at (Ok (Some a)) j → Obeys t (Put a) (put_answer (Err f)) t'
+  pub loaded_refused : (bs : List ℕ) (s s₀ t t' : Strip L) (at j : ℕ) (a : L) (f : StripFault) → Obeys s Clear Done s₀
+      → Loading InRange code bs s₀ t at → LetterRead kind InRange code bs at (Ok (Some a)) j → Obeys t (Put a) (put_answer (Err f)) t'
       → (w : List L) → AllByRecursion InRange w → bs ≡ encode_codes (map code w) → Loaded s w (Err f) t'
   loaded_refused bs s s₀ t t' at j a f o l r put w h e =
       let more = part_more bs at j (word_of t) w a (l.part w h e) r in
-      let same = l.behind.1 ∙ o.capacity in
+      let same = l.behind.capacity ∙ o.capacity in
       let word = refused_word put.rule in
       let shorter : t.len ≤ t'.len = omega (arith, ap length word, word_length t, word_length t') in
-      let behind : Behind s₀ t' = (put.rest ∙ further t.len t'.len (memory_of t) (memory_of s₀) shorter l.behind.0, put.capacity ∙ l.behind.1) in (
+      let behind : Behind s₀ t' = record {
+        rest = put.rest ∙ further t.len t'.len (memory_of t) (memory_of s₀) shorter l.behind.rest;
+        capacity = put.capacity ∙ l.behind.capacity;
+        lender = put.lender ∙ l.behind.lender;
+      } in (
         refused_as (capacity_of s) w (word_of t) a more.rest (word_of t') (put_answer (Err f)) f more.split (subst (λ n. Holds n (word_of t)) o.capacity l.holds)
             (subst (λ n. Rule n (word_of t) (Put a) (put_answer (Err f)) (word_of t')) same put.rule) refl,
         cleared_behind s s₀ t' o behind,
       )
 
 -- What was read, of equal bytes and with an equal answer.
-pub same_read : {L : Type 0} {kind : Kind} {InRange : L → Type 0} {code : L → ℕ} {bs bs' : List ℕ} {at j : ℕ} {n n' : Option L}
-    → bs ≡ bs' → n ≡ n' → LetterRead kind InRange code bs at (Ok n) j → LetterRead kind InRange code bs' at (Ok n') j
-same_read {kind = kind} {InRange = InRange} {code = code} {bs = bs} {at = at} {j = j} {n' = n'} e f r =
-    subst (λ b. LetterRead kind InRange code b at (Ok n') j) e (subst (λ x. LetterRead kind InRange code bs at (Ok x) j) f r)
+pub same_read : {L : Type 0} {kind : Kind} {InRange : L → Type 0} {code : L → ℕ} {bs bs' : List ℕ} {at j : ℕ} {r : Result (Option L) FileFault} {n n' : Option L}
+    → bs ≡ bs' → r ≡ Ok n → n ≡ n' → LetterRead kind InRange code bs at r j → LetterRead kind InRange code bs' at (Ok n') j
+same_read {kind = kind} {InRange = InRange} {code = code} {bs = bs} {at = at} {j = j} {n' = n'} e f g r =
+    subst (λ b. LetterRead kind InRange code b at (Ok n') j) e (subst (λ x. LetterRead kind InRange code bs at x j) (f ∙ ap Ok g) r)

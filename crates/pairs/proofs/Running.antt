@@ -1,5 +1,5 @@
 -- What a run keeps true from plate to plate, and how it ends.
-use Rattle.std.proofs.Common.{◌≡◌, ℕ, ◌<◌, ◌≤◌, Bool, List, [], ◌∷◌, ◌++◌, map, length, is_ok, Some, None, Ok, Err, Option, Result, sym, refl, ap, ◌∙◌, subst, inl, inr, append_assoc, append-nil, arith}
+use Rattle.std.proofs.Common.{◌≡◌, ℕ, Bool, List, [], ◌∷◌, ◌++◌, map, Some, None, Ok, Err, Option, Result, sym, refl, ap, ◌∙◌, subst, inl, inr, append-nil}
 use Rattle.std.proofs.lemmas.List.{map_push, flat_map_more}
 use Rattle.std.specs.List.{AllByRecursion}
 use Rattle.letters.specs.declared.kind.Kind.{Kind}
@@ -9,8 +9,10 @@ use Rattle.strips.specs.Strips.{word_of, capacity_of}
 use Rattle.files.specs.declared.reader.Reader.{Reader}
 use Rattle.files.specs.Numbers.{encode, Stands}
 use Rattle.files.specs.Records.{Allowed, Rising, last_plate, encode_entry, encode_file}
-use Rattle.files.proofs.Progress.{entry_long, last_push, rising_push}
-use Rattle.files.proofs.Reading.{stands_append, stands_within}
+use Rattle.files.proofs.Progress.{last_push, rising_push}
+use Rattle.files.proofs.Reading.{stands_append}
+use Rattle.pairs.specs.declared.stop.Stop.{Stop}
+use Rattle.pairs.specs.declared.stop.Stop.TheVariants.{Refused, Unprinted}
 use Rattle.pairs.specs.declared.fault.RunFault.{RunFault}
 use Rattle.pairs.specs.declared.fault.RunFault.TheVariants.{FileTooLong, File, Record, Question, Write}
 use Rattle.pairs.specs.Plates.{Plate, entry_of, Given, Holds, Overfull, Loaded, PlateAnswer}
@@ -90,22 +92,7 @@ module _ {L : Type 0} (lt : L → L → Type 0) (kind : Kind) (InRange : L → T
   pub at_began : (bs : List ℕ) (a : Reader) (ps : List (Plate L)) (ls : List (List ℕ)) → At bs a ps ls → BeganOf lt kind InRange code bs ls
   at_began bs a ps ls h = began ps a.at ls h.begins h.lines
 
-  -- The reader goes forward, within the bytes.
-  pub given_forward : (bs : List ℕ) (a b : Reader) (q : Plate L) (ps : List (Plate L)) (ls : List (List ℕ)) → At bs a ps ls → Given kind InRange code a q b
-      → (a.at < b.at) × (b.at ≤ length bs)
-  given_forward bs a b q ps ls h given =
-      let s : Stands bs a.at (encode_entry (entry_of code q)) b.at = subst (λ x. Stands x a.at (encode_entry (entry_of code q)) b.at) h.bytes given.stands in (
-        omega (arith, s.1, entry_long (entry_of code q)),
-        stands_within bs (encode_entry (entry_of code q)) a.at b.at s (stands_within bs _ 0 a.at h.begins.stands (omega arith)),
-      )
-
 module _ {L S : Type 0} (lt : L → L → Type 0) (kind : Kind) (InRange : L → Type 0) (code : L → ℕ) (took : S → List ℕ → Bool → S → Type 0) where
-  -- Lines that were taken after others.
-  took_append : (s m t : S) (ls ms : List (List ℕ)) → Took took s ls m → Took took m ms t → Took took s (ls ++ ms) t
-  took_append s m t ls ms h none_taken = subst (λ x. Took took s x t) (sym (append-nil ls)) h
-  took_append s m t ls ms h (one_taken ns n l t' k last) =
-      subst (λ x. Took took s x t) (append_assoc ls ns (l ∷ [])) (one_taken (ls ++ ns) n l t (took_append s m n ls ns h k) last)
-
   -- The run stands at the plate of this number, whose word is on the strip `earlier`, and the sink has taken the lines so far.
   pub record Running (bs : List ℕ) (from : S) (a : Reader) (number : ℕ) (earlier later : Strip L) (to : S) : Type 0 where
     pub plates : List (Plate L)
@@ -117,10 +104,10 @@ module _ {L S : Type 0} (lt : L → L → Type 0) (kind : Kind) (InRange : L →
   -- Given a plate, it stands on a strip.
   stands_on : (a b : Reader) (n : ℕ) (w : List L) (s t other : Strip L) → a.kind ≡ kind → capacity_of s ≡ 400 → capacity_of other ≡ 400
       → Given kind InRange code a (record { number = n; word = w }) b → Loaded s w (Ok tt) t → Standing kind InRange b t other
-  stands_on a b n w s t other same size size' given (word, holds, (behind, capacity)) =
+  stands_on a b n w s t other same size size' given (word, holds, behind) =
       record {
         same_kind = ap (λ x. x.kind) given.after ∙ same;
-        earlier_size = capacity ∙ size;
+        earlier_size = behind.capacity ∙ size;
         later_size = size';
         letters = subst (AllByRecursion InRange) (sym word) given.letters;
       }
@@ -132,16 +119,10 @@ module _ {L S : Type 0} (lt : L → L → Type 0) (kind : Kind) (InRange : L →
       → Given kind InRange code a (record { number = n; word = word_of t }) b
   as_loaded a b n w s t (word, holds, behind) given = subst (λ v. Given kind InRange code a (record { number = n; word = v }) b) (sym word) given
 
-  pub first_bytes : (a b : Reader) (n : ℕ) (left left' : Strip L) (o : Option ℕ) → o ≡ Some n → PlateAnswer kind InRange code a left (Ok o) b left' → b.bytes.now ≡ a.bytes.now
-  first_bytes a b n left left' o is answer =
-      let (w, given, loaded) = subst (λ x. PlateAnswer kind InRange code a left (Ok x) b left') is answer in
-      ap (λ x. x.bytes.now) given.after
-
   pub running_first : (a b : Reader) (n : ℕ) (left left' right : Strip L) (from : S) (o : Option ℕ) → Fresh kind a → capacity_of left ≡ 400 → capacity_of right ≡ 400
-      → o ≡ Some n → PlateAnswer kind InRange code a left (Ok o) b left' → Running b.bytes.now from b n left' right from
+      → o ≡ Some n → PlateAnswer kind InRange code a left (Ok o) b left' → Running a.bytes.now from b n left' right from
   running_first a b n left left' right from o fresh size size' is answer =
       let (w, given, loaded) = subst (λ x. PlateAnswer kind InRange code a left (Ok x) b left') is answer in
-      subst (λ x. Running x from b n left' right from) (sym (ap (λ x. x.bytes.now) given.after))
       record {
         plates = [];
         texts = [];
@@ -151,50 +132,47 @@ module _ {L S : Type 0} (lt : L → L → Type 0) (kind : Kind) (InRange : L →
       }
 
   -- A step: the strips change their parts.
-  pub running_next : (bs : List ℕ) (from : S) (a b : Reader) (number n : ℕ) (earlier later later' : Strip L) (to to' : S) (o : Option ℕ) → Running bs from a number earlier later to → o ≡ Some n
-      → Advanced lt kind InRange code took {E = Unit {0}} a (record { number = number; word = word_of earlier }) later to (Ok o) b later' to'
-      → Running bs from b n later' earlier to'
-  running_next bs from a b number n earlier later later' to to' o r is advanced =
-      let (w, given, loaded, l, line, taken) =
-      subst (λ x. Advanced lt kind InRange code took {E = Unit {0}} a (record { number = number; word = word_of earlier }) later to (Ok x) b later' to') is advanced in
-      record {
-        plates = r.plates ++ (record { number = number; word = word_of earlier } ∷ []);
-        texts = r.texts ++ (l ∷ []);
-        at = at_next lt kind InRange code bs a b r.plates (record { number = number; word = word_of earlier }) (record { number = n; word = word_of later' }) r.texts l r.at
-            (as_loaded a b n w later later' loaded given) (on_strip later later' w r.standing.later_size loaded)
-            (subst (λ v. Line lt kind InRange code (record { number = number; word = word_of earlier }) (record { number = n; word = v }) l) (sym loaded.0) line);
-        taken = one_taken r.texts to l to' r.taken taken;
-        standing = stands_on a b n w later later' earlier r.standing.same_kind r.standing.later_size r.standing.earlier_size given loaded;
-      }
+  module _ (bs : List ℕ) (from : S) (a b : Reader) (number : ℕ) (earlier later later' : Strip L) (to to' : S) (r : Running bs from a number earlier later to) where
+    abbrev Steps : Result (Option ℕ) Stop → Type 0
+    Steps answer = Advanced lt kind InRange code took a (record { number = number; word = word_of earlier }) later to answer b later' to'
 
-  pub running_forward : (bs : List ℕ) (from : S) (a b : Reader) (number n : ℕ) (earlier later later' : Strip L) (to to' : S) (o : Option ℕ) → Running bs from a number earlier later to → o ≡ Some n
-      → Advanced lt kind InRange code took {E = Unit {0}} a (record { number = number; word = word_of earlier }) later to (Ok o) b later' to'
-      → (a.at < b.at) × (b.at ≤ length bs)
-  running_forward bs from a b number n earlier later later' to to' o r is advanced =
-      let (w, given, loaded, l, line, taken) = subst (λ x. Advanced lt kind InRange code took {E = Unit {0}} a (record { number = number; word = word_of earlier }) later to (Ok x) b later' to') is advanced in
-      given_forward lt kind InRange code bs a b _ _ _ r.at given
+    pub running_next : (n : ℕ) (o : Option ℕ) → o ≡ Some n → Steps (Ok o) → Running bs from b n later' earlier to'
+    running_next n o is advanced =
+        let (w, given, loaded, l, line, taken) = subst (λ x. Steps (Ok x)) is advanced in
+        record {
+          plates = r.plates ++ (record { number = number; word = word_of earlier } ∷ []);
+          texts = r.texts ++ (l ∷ []);
+          at = at_next lt kind InRange code bs a b r.plates (record { number = number; word = word_of earlier }) (record { number = n; word = word_of later' }) r.texts l r.at
+              (as_loaded a b n w later later' loaded given) (on_strip later later' w r.standing.later_size loaded)
+              (subst (λ v. Line lt kind InRange code (record { number = number; word = word_of earlier }) (record { number = n; word = v }) l) (sym loaded.0) line);
+          taken = one_taken r.texts to l to' r.taken taken;
+          standing = stands_on a b n w later later' earlier r.standing.same_kind r.standing.later_size r.standing.earlier_size given loaded;
+        }
 
-  -- The run is over.
-  pub running_end : (bs : List ℕ) (from : S) (a b : Reader) (number : ℕ) (earlier later later' : Strip L) (to to' : S) (o : Option ℕ) → Running bs from a number earlier later to → o ≡ None
-      → Advanced lt kind InRange code took {E = Unit {0}} a (record { number = number; word = word_of earlier }) later to (Ok o) b later' to'
-      → PlatesAnswer lt kind InRange code took {E = Unit {0}} bs from (Ok tt) to'
-  running_end bs from a b number earlier later later' to to' o r is advanced =
-      let (ends, e, taken) = subst (λ x. Advanced lt kind InRange code took {E = Unit {0}} a (record { number = number; word = word_of earlier }) later to (Ok x) b later' to') is advanced in
-      (r.texts ++ ends, at_end lt kind InRange code bs a _ r.texts ends r.at e, took_append from to to' r.texts ends r.taken taken)
+    -- The run is at the end of the file,
+    pub running_end : (o : Option ℕ) → o ≡ None → Steps (Ok o) → PlatesAnswer lt kind InRange code took bs from (Ok tt) to'
+    running_end o is advanced =
+        let (ends, same) = subst (λ x. Steps (Ok x)) is advanced in (
+          r.texts,
+          subst (RunOf lt kind InRange code bs) (append-nil r.texts) (at_end lt kind InRange code bs a _ r.texts [] r.at ends),
+          subst (Took took from r.texts) (sym same) r.taken,
+        )
 
-  -- The sink refused a line.
-  pub running_refused : (bs : List ℕ) (from : S) (a b : Reader) (number : ℕ) (earlier later later' : Strip L) (to to' : S) (e : Unit {0}) → Running bs from a number earlier later to
-      → Advanced lt kind InRange code took a (record { number = number; word = word_of earlier }) later to (Err e) b later' to'
-      → PlatesAnswer lt kind InRange code took bs from (Err e) to'
-  running_refused bs from a b number earlier later later' to to' e r (l, refused, inl (q, given, holds, line)) =
-      let next = at_next lt kind InRange code bs a b r.plates _ q r.texts l r.at given holds line in
-      (r.texts, to, l, at_began lt kind InRange code bs a _ r.texts r.at, r.taken, inl (at_began lt kind InRange code bs b _ _ next), refused)
-  running_refused bs from a b number earlier later later' to to' e r (l, refused, inr ends) =
-      (r.texts, to, l, at_began lt kind InRange code bs a _ r.texts r.at, r.taken, inr (at_end lt kind InRange code bs a _ r.texts (l ∷ []) r.at ends), refused)
+    -- or it stops before.
+    pub running_stops : (stop : Stop) → Steps (Err stop) → PlatesAnswer lt kind InRange code took bs from (Err stop) to'
+    running_stops (Refused fault) (ends, same) = (
+      r.texts,
+      at_began lt kind InRange code bs a _ r.texts r.at,
+      at_end lt kind InRange code bs a _ r.texts (fault_line fault ∷ []) r.at ends,
+      subst (Took took from r.texts) (sym same) r.taken,
+    )
+    running_stops (Unprinted error) (q, given, holds, l, line, refused) =
+        let next = at_next lt kind InRange code bs a b r.plates _ q r.texts l r.at given holds line in
+        (r.texts, to, l, at_began lt kind InRange code bs a _ r.texts r.at, r.taken, at_began lt kind InRange code bs b _ _ next, refused)
 
   -- A run without plates: the file has no record,
   pub empty_run : (a b : Reader) (left left' : Strip L) (from : S) (o : Option ℕ) → Fresh kind a → o ≡ None → PlateAnswer kind InRange code a left (Ok o) b left'
-      → PlatesAnswer lt kind InRange code took {E = Unit {0}} a.bytes.now from (Ok tt) from
+      → PlatesAnswer lt kind InRange code took a.bytes.now from (Ok tt) from
   empty_run a b left left' from o fresh is answer =
       let (same, end, kept, on) = subst (λ x. PlateAnswer kind InRange code a left (Ok x) b left') is answer in
       ([], at_end lt kind InRange code a.bytes.now a [] [] [] (at_start lt kind InRange code a fresh) (file_ends end), none_taken)
@@ -211,12 +189,12 @@ module _ {L S : Type 0} (lt : L → L → Type 0) (kind : Kind) (InRange : L →
   first_ends a b left left' (Question f) fresh size h = absurd h
   first_ends a b left left' (Write f) fresh size h = absurd h
 
-  pub refused_run : {E : Type 0} (a b : Reader) (left left' : Strip L) (f : RunFault) (from to : S) (r : Result (Unit {0}) E) → Fresh kind a → capacity_of left ≡ 400
-      → PlateAnswer kind InRange code a left (Err f) b left' → took from (fault_line f) (is_ok r) to → PlatesAnswer lt kind InRange code took a.bytes.now from r to
-  refused_run a b left left' f from to (Ok done) fresh size answer taken =
-      let ends = first_ends a b left left' f fresh size answer in
-      (fault_line f ∷ [], at_end lt kind InRange code a.bytes.now a [] [] (fault_line f ∷ []) (at_start lt kind InRange code a fresh) ends, one_taken [] from (fault_line f) to none_taken taken)
-  refused_run a b left left' f from to (Err e) fresh size answer refused =
-      let ends = first_ends a b left left' f fresh size answer in
-      let start = at_start lt kind InRange code a fresh in
-      ([], from, fault_line f, at_began lt kind InRange code a.bytes.now a [] [] start, none_taken, inr (at_end lt kind InRange code a.bytes.now a [] [] (fault_line f ∷ []) start ends), refused)
+  pub refused_run : (a b : Reader) (left left' : Strip L) (f : RunFault) (from : S) → Fresh kind a → capacity_of left ≡ 400
+      → PlateAnswer kind InRange code a left (Err f) b left' → PlatesAnswer lt kind InRange code took a.bytes.now from (Err (Refused f)) from
+  refused_run a b left left' f from fresh size answer =
+      let start = at_start lt kind InRange code a fresh in (
+        [],
+        at_began lt kind InRange code a.bytes.now a [] [] start,
+        at_end lt kind InRange code a.bytes.now a [] [] (fault_line f ∷ []) start (first_ends a b left left' f fresh size answer),
+        none_taken,
+      )

@@ -6,6 +6,8 @@ use Rattle.questions.specs.Separate.{Asked}
 use Rattle.files.specs.Line.{line_text, Wrote}
 use Rattle.pairs.specs.declared.fault.RunFault.{RunFault}
 use Rattle.pairs.specs.declared.fault.RunFault.TheVariants.{FileTooLong, File, Record, Question, Write}
+use Rattle.pairs.specs.declared.memory.Memory.{Memory}
+use Rattle.pairs.specs.Memories.{SameLoans}
 use Rattle.pairs.specs.Plates.{Plate}
 
 module _ {L : Type 0} (lt : L → L → Type 0) (code : L → ℕ) where
@@ -25,3 +27,7 @@ module _ {L : Type 0} (lt : L → L → Type 0) (code : L → ℕ) where
   Compared p q row scratch line (Err FileTooLong) row' scratch' line' = ⊥
   Compared p q row scratch line (Err (File fault)) row' scratch' line' = ⊥
   Compared p q row scratch line (Err (Record fault place)) row' scratch' line' = ⊥
+
+  -- The same in the memory m, which is m' after it.
+  abbrev pub ComparedIn : Plate L → Plate L → Memory L → Result ℕ RunFault → Memory L → Type 0
+  ComparedIn p q m result m' = Compared p q m.row.now m.scratch.now m.line.now result m'.row.now m'.scratch.now m'.line.now × SameLoans m m'

@@ -13,6 +13,7 @@ use Rattle.files.specs.declared.fault.FileFault.TheVariants.{UnknownKind}
 use Rattle.files.specs.declared.reader.Reader.{Reader}
 use Rattle.files.specs.Numbers.{Stands}
 use Rattle.files.specs.Records.{Entry, Allowed, encode_entry, RecordFault}
+use Rattle.pairs.specs.declared.plate.PlateOnStrip.{PlateOnStrip}
 use Rattle.pairs.specs.declared.fault.RunFault.{RunFault}
 use Rattle.pairs.specs.declared.fault.RunFault.TheVariants.{FileTooLong, File, Record, Question, Write}
 
@@ -20,6 +21,10 @@ use Rattle.pairs.specs.declared.fault.RunFault.TheVariants.{FileTooLong, File, R
 pub record Plate (L : Type 0) : Type 0 where
   pub number : ℕ
   pub word : List L
+
+-- The plate whose word is on a strip.
+abbrev pub plate_of : {L : Type 0} → PlateOnStrip L → Plate L
+plate_of p = record { number = p.number; word = word_of p.strip.now }
 
 -- The record that a plate has in a file.
 abbrev pub entry_of : {L : Type 0} → (L → ℕ) → Plate L → Entry
@@ -35,9 +40,12 @@ pub data Overfull {L : Type 0} (capacity : ℕ) (w v : List L) : StripFault → 
   too_long : (a : L) (rest : List L) → w ≡ v ++ (a ∷ rest) → Holds capacity v → capacity ≤ length v → Overfull capacity w v (Full (length v))
   too_many : (a : L) (rest : List L) → w ≡ v ++ (a ∷ rest) → Holds capacity v → length v < capacity → (Admits a v → ⊥) → Overfull capacity w v (TooManyKinds (length v))
 
--- From the strip s to the strip t, the memory behind the word of t and the capacity stayed.
-abbrev pub Behind : {L : Type 0} → Strip L → Strip L → Type 0
-Behind s t = (drop t.len (memory_of t) ≡ drop t.len (memory_of s)) × (capacity_of t ≡ capacity_of s)
+-- From the strip s to the strip t only the word changed: the memory behind the word of t stayed, the capacity, and whose the
+-- memory is.
+pub record Behind {L : Type 0} (s t : Strip L) : Type 0 where
+  pub rest : drop t.len (memory_of t) ≡ drop t.len (memory_of s)
+  pub capacity : capacity_of t ≡ capacity_of s
+  pub lender : t.letters.ghost_name ≡ s.letters.ghost_name
 
 -- The strip s was given the word w in place of its own, and is t now: it has all of w, or the front part that it can hold.
 abbrev pub Loaded : {L : Type 0} → Strip L → List L → Result (Unit {0}) StripFault → Strip L → Type 0

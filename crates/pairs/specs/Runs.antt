@@ -68,7 +68,7 @@ pub data Began (bs : List ℕ) : List (List ℕ) → Type 0 where
   some_modes : (ls : List (List ℕ)) → BeganOf (Before mode_order) Modes (λ m. ModeNumber m.value) (λ m. m.value) bs ls → Began bs ls
   some_taps : (ls : List (List ℕ)) → BeganOf (Before tap_order) Taps (λ t. TapNumbers t.zone t.step) tap_code bs ls → Began bs ls
 
--- AllByRecursion lines that it prints: the refusal of a file that is too long, or whose kind is refused, or those of a run.
+-- All lines that it prints: the refusal of a file that is too long, or whose kind is refused, or those of a run.
 pub data Printed (bs : List ℕ) : List (List ℕ) → Type 0 where
   too_long : 16384 < length bs → Printed bs (fault_line FileTooLong ∷ [])
   not_opened : (fault : FileFault) → length bs ≤ 16384 → Opened bs (Err fault) → Printed bs (fault_line (File fault) ∷ [])

@@ -1,36 +1,30 @@
 //! The line of two plates whose words are on strips.
 
-ghost use Rattle.strips.specs.Strips.{word_of};
 ghost use Rattle.words.specs.Letters.{Before};
+ghost use Rattle.pairs.specs.Plates.{plate_of};
 ghost use Rattle.pairs.specs.Compared.{Compared};
 
 use crate::fault::RunFault;
+use crate::plate::PlateOnStrip;
 use files::write_line;
 use letters::CodedLetter;
 use questions::separate;
-use strips::Strip;
-use words::{Side, Telling};
+use words::Side;
 
 /// Tells two plates apart, writes their line into the first bytes of `line`, and answers how many these are.
+// The memory comes in its three parts: of a lent struct's `&mut`, nothing but the length is known after a part of it was read.
 pub(crate) fn compare<L: CodedLetter>(
-    first: u32,
-    earlier: &Strip<'_, L>,
-    second: u32,
-    later: &Strip<'_, L>,
+    first: PlateOnStrip<'_, L>,
+    second: PlateOnStrip<'_, L>,
     row: &mut [L],
     scratch: &mut [u32],
     line: &mut [u8],
 ) -> Result<usize, RunFault>
-    ensures { Compared (Before L.OrderedLetter.order) L.code (record { number = first; word = word_of earlier.now }) (record { number = second; word = word_of later.now }) row.old scratch.old line.old result row.new scratch.new line.new }
+    ensures { Compared (Before L.OrderedLetter.order) L.code (plate_of first.entry) (plate_of second.entry) row.old scratch.old line.old result row.new scratch.new line.new }
 {
-    let answer = separate(earlier, later, row, scratch)?;
-    let Telling { length, side } = match answer {
-        Some(telling) => telling,
-        None => Telling {
-            length: 0,
-            side: Side::Left,
-        },
-    };
-    let written = write_line(first, second, side, &row[0..length], line)?;
+    let told = separate(first.strip, second.strip, row, scratch)?;
+    // Where no row tells the plates apart, their line has an empty one, of either side.
+    let (length, side) = told.map_or((0, Side::Left), |telling| (telling.length, telling.side));
+    let written = write_line(first.number, second.number, side, &row[..length], line)?;
     Ok(written)
 }

@@ -6,6 +6,7 @@ ghost use Rattle.pairs.specs.Faults.{run_fault};
 
 use files::{FileFault, WriteFault};
 use questions::QuestionFault;
+use refusals::{Fault, Refusal};
 use strips::StripFault;
 
 /// The bytes that a file has at most.
@@ -26,28 +27,22 @@ pub enum RunFault {
     Write(WriteFault),
 }
 
-impl RunFault {
-    pub fn number(self) -> u8
-        ensures { result ≡ (run_fault self).0 }
-    {
-        match self {
-            RunFault::FileTooLong => 61,
-            RunFault::File(fault) => fault.number(),
-            RunFault::Record(fault, _) => fault.number(),
-            RunFault::Question(fault) => fault.number(),
-            RunFault::Write(fault) => fault.number(),
-        }
-    }
+impl Fault for RunFault {
+    ghost numbers = { run_fault };
 
-    pub fn place(self) -> usize
-        ensures { result ≡ (run_fault self).1 }
-    {
+    fn refusal(self) -> Refusal {
         match self {
-            RunFault::FileTooLong => LONGEST_FILE,
-            RunFault::File(fault) => fault.place(),
-            RunFault::Record(_, place) => place,
-            RunFault::Question(fault) => fault.place(),
-            RunFault::Write(fault) => fault.place(),
+            RunFault::FileTooLong => Refusal {
+                number: 61,
+                place: LONGEST_FILE,
+            },
+            RunFault::File(fault) => fault.refusal(),
+            RunFault::Record(fault, place) => Refusal {
+                number: fault.number(),
+                place,
+            },
+            RunFault::Question(fault) => fault.refusal(),
+            RunFault::Write(fault) => fault.refusal(),
         }
     }
 }

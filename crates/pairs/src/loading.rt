@@ -12,18 +12,12 @@ use strips::{Strip, StripFault};
 /// Puts the letters of these code bytes on the strip, in place of the word that it has.
 pub(crate) fn load<L: CodedLetter>(strip: &mut Strip<'_, L>, codes: &[u8]) -> Result<(), StripFault>
     requires { (w : List L) × AllByRecursion L.InRange w × (codes.now ≡ encode_codes (map L.code w)) }
-    ensures outcome { (w : List L) → AllByRecursion L.InRange w → codes.now ≡ encode_codes (map L.code w) → Loaded strip.old w result strip.new }
-    ensures lender { strip.new.letters.ghost_name ≡ strip.old.letters.ghost_name }
+    ensures { (w : List L) → AllByRecursion L.InRange w → codes.now ≡ encode_codes (map L.code w) → Loaded strip.old w result strip.new }
 {
     strip.clear();
     let mut letters = Letters::<L>::over(codes);
-    loop {
-        let Ok(next) = letters.next() else {
-            unreachable()
-        };
-        let Some(letter) = next else {
-            return Ok(());
-        };
+    while let Some(letter) = letters.next().unwrap() {
         strip.put(letter)?;
     }
+    Ok(())
 }

@@ -5,6 +5,7 @@ ghost use Rattle.std.specs.Prelude.{◌≡◌, ℕ, Bool, List, ◌++◌, is_ok,
 use std::io;
 
 /// Takes lines, one at a time.
+// A trait and no closure: a call of a closure has to be asked for by a `requires`, and no public call here has one.
 pub trait Sink {
     /// Holds of the sink before, a line that it was given, whether it took the line, and the sink after.
     ghost took: { Self → List ℕ → Bool → Self → Type 0 };

@@ -1,13 +1,13 @@
 //! One step of a run over a file: the next plate is read, and its line is written.
 
-ghost use Rattle.std.specs.Prelude.{◌≡◌};
-ghost use Rattle.strips.specs.Strips.{word_of};
 ghost use Rattle.words.specs.Letters.{Before};
+ghost use Rattle.pairs.specs.Plates.{plate_of};
 ghost use Rattle.pairs.specs.Steps.{StepAnswer};
 
 use crate::comparing::compare;
 use crate::fault::RunFault;
-use crate::plate::read_plate;
+use crate::memory::Memory;
+use crate::plate::{PlateOnStrip, read_plate};
 use files::Reader;
 use letters::CodedLetter;
 use strips::Strip;
@@ -19,27 +19,24 @@ pub struct NextLine {
     pub length: usize,
 }
 
-/// Reads the next plate onto the strip `later` and writes the line that tells the plate on `earlier` from
-/// it into the first bytes of `line`; none at the end of the file.
+/// Reads the next plate onto the strip `later` and writes the line that tells the plate `earlier` from
+/// it into the first bytes of the memory's; none at the end of the file.
 pub fn step<L: CodedLetter>(
     reader: &mut Reader<'_>,
-    plate: u32,
-    earlier: &Strip<'_, L>,
+    earlier: PlateOnStrip<'_, L>,
     later: &mut Strip<'_, L>,
-    row: &mut [L],
-    scratch: &mut [u32],
-    line: &mut [u8],
+    memory: &mut Memory<'_, L>,
 ) -> Result<Option<NextLine>, RunFault>
-    ensures answer { StepAnswer (Before L.OrderedLetter.order) L.kind L.InRange L.code reader.old (record { number = plate; word = word_of earlier.now }) later.old row.old scratch.old line.old result reader.new later.new row.new scratch.new line.new }
-    ensures lender { later.new.letters.ghost_name ≡ later.old.letters.ghost_name }
+    ensures { StepAnswer (Before L.OrderedLetter.order) L.kind L.InRange L.code reader.old (plate_of earlier.entry) later.old memory.old result reader.new later.new memory.new }
 {
     let read = read_plate(reader, later)?;
-    let Some(next) = read else {
+    let Some(plate) = read else {
         return Ok(None);
     };
-    let length = compare(plate, earlier, next, later, row, scratch, line)?;
-    Ok(Some(NextLine {
-        plate: next,
-        length,
-    }))
+    let read = PlateOnStrip {
+        number: plate,
+        strip: later,
+    };
+    let length = compare(earlier, read, memory.row, memory.scratch, memory.line)?;
+    Ok(Some(NextLine { plate, length }))
 }

@@ -1,7 +1,8 @@
 //! A step, and the same with memory that is one short.
 
 use crate::fault::RunFault;
-use crate::plate::read_plate;
+use crate::memory::Memory;
+use crate::plate::{PlateOnStrip, read_plate};
 use crate::stepping::{NextLine, step};
 use files::{Reader, WriteFault};
 use letters::Mode;
@@ -24,7 +25,12 @@ fn step_in(
     let mut left = Strip::open(&mut left_letters);
     let mut right = Strip::open(&mut right_letters);
     assert_eq!(rt; read_plate(&mut reader, &mut left), Ok(Some(7)));
-    Ok(step(&mut reader, 7, &left, &mut right, row, scratch, line))
+    let seven = PlateOnStrip {
+        number: 7,
+        strip: &left,
+    };
+    let mut memory = Memory { row, scratch, line };
+    Ok(step(&mut reader, seven, &mut right, &mut memory))
 }
 
 #[test]

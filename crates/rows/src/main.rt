@@ -22,12 +22,12 @@ impl Sink for Printer<'_> {
 
 fn main(rt: HostRuntime) -> io::Result<()> {
     let mut input = Vec::new(rt.alloc());
-    // One byte more than a file may have tells that it is too long.
+    // One byte more than a file may have tells that it is too long. No `u64::from` takes a `usize`.
     rt.stdin()
         .take(LONGEST_FILE as u64 + 1)
         .read_to_end(&mut input)?;
     let mut printer = Printer { rt: &rt };
-    let printed = print_lines(input.as_slice(), &mut printer);
+    let printed = print_lines(&input, &mut printer);
     let Printer { rt: _ } = printer;
     printed
 }

@@ -9,6 +9,5 @@ fn main(rt: HostRuntime) -> io::Result<()> {
     let heap = rt.alloc();
     let mut input = Vec::new(heap);
     rt.stdin().read_to_end(&mut input)?;
-    let text = list(heap, input.as_slice())?;
-    rt.print(text)
+    rt.print(list(heap, &input)?)
 }
