@@ -1,9 +1,10 @@
 -- The degree of two words: the length of a shortest telling row, counted up to a cap. It follows a letter that is put in
 -- front of a word, it is the least coordinate between two end parts of one word, and it is found letter by letter from what
 -- follows the first occurrences in both words.
-use Rattle.std.proofs.Common.{◌≡◌, ℕ, suc, ◌<◌, ◌≤◌, min, ◌⊎◌, List, [], ◌∷◌, ◌++◌, length, take, sym, refl, inl, inr, ⊎_elim, arith, length-take}
+use Rattle.std.proofs.Common.{◌≡◌, ℕ, suc, ◌<◌, ◌≤◌, min, max, ◌⊎◌, List, [], ◌∷◌, ◌++◌, length, take, drop, sym, refl, inl, inr, ⊎_elim, arith, length-take}
 use native.Mathlib.Decide.{dec_lt, dec_le}
 use mathlib.Core.List.{List-discrete}
+use Rattle.std.proofs.Math.Nat.{min-eq_left, min-eq_right, max-eq_left, max-eq_right}
 pub use Rattle.words.specs.Degrees.{Degree, Follow, both, first_only, second_only, neither}
 use Rattle.words.specs.Words.{Sub, skip, Within, Congruent, Telling}
 use Rattle.words.proofs.Subsequences.{sub_empty, sub_refl, sub_trans, sub_length, sub_whole, sub_take, sub_back, sub?}
@@ -18,6 +19,17 @@ module _ {A : Type 0} where
 
   pub degree_sym : {K d : ℕ} {u v : List A} → Degree K d u v → Degree K d v u
   degree_sym (l, f) = (l, λ k h. (λ c. (f k h).0 (congruent_sym c), λ b. congruent_sym ((f k h).1 b)))
+
+  -- The degree of two end parts of a word, from that of the longer and the shorter one.
+  pub degree_parts : {K d : ℕ} (w : List A) (here there : ℕ) → Degree K d (drop (min here there) w) (drop (max here there) w)
+      → Degree K d (drop here w) (drop there w)
+  degree_parts {K} {d} w here there f = go (dec_le here there)
+    where
+      go : Dec (here ≤ there) → Degree K d (drop here w) (drop there w)
+      go (yes l) = rw (min-eq_left l, max-eq_right l) at f
+      go (no n) =
+          let l : there ≤ here = omega arith in
+          degree_sym (rw (min-eq_right l, max-eq_left l) at f)
 
   pub degree_unique : {K d e : ℕ} {u v : List A} → Degree K d u v → Degree K e u v → d ≡ e
   degree_unique {K} {d} {e} {u} {v} f g = go (dec_lt d e) (dec_lt e d)

@@ -1,8 +1,7 @@
 -- The first telling row of two words of ranks, letter by letter, as it is written.
-use Rattle.std.proofs.Common.{◌≡◌, ℕ, suc, ◌+◌, ◌-◌, ◌<◌, ◌≤◌, ◌⊎◌, List, [], ◌∷◌, ◌++◌, Option, Some, None, length, take, drop, set, refl, ◌∙◌, inl, inr, append_assoc, arith}
+use Rattle.std.proofs.Common.{◌≡◌, ℕ, suc, ◌+◌, ◌-◌, ◌<◌, ◌≤◌, ◌⊎◌, List, [], ◌∷◌, ◌++◌, length, take, drop, set, refl, ◌∙◌, inl, inr, append_assoc, arith}
 use native.Mathlib.Decide.{dec_lt, ℕ_discrete}
 use Rattle.std.proofs.lemmas.List.{take_more_set}
-use Rattle.std.specs.Option.{IsSome, MatchOption}
 use Rattle.words.specs.Words.{Sub, skip, keep, Congruent, Tells, Telling, Order, FirstTelling}
 use Rattle.words.specs.Degrees.{Degree, after, Follow, both, first_only, second_only, neither}
 use Rattle.words.specs.Reading.{end_part}
@@ -33,7 +32,7 @@ below_occurs : {n x : ℕ} {w : List ℕ} → Below n w → Sub (x ∷ []) w →
 below_occurs b (skip s) = below_occurs (λ i l. b (suc i) (omega arith)) s
 below_occurs b (keep s) = b 0 (omega arith)
 
-pub below_end : {n x : ℕ} (i : ℕ) (w : List ℕ) → Below n w → Sub (x ∷ []) (drop i w) → x < n
+below_end : {n x : ℕ} (i : ℕ) (w : List ℕ) → Below n w → Sub (x ∷ []) (drop i w) → x < n
 below_end i w b s = below_occurs b (sub_trans s (tail_sub (drop_tail i w)))
 
 -- words with a degree below the cap have a letter that says less
@@ -48,11 +47,23 @@ module _ {K degree n : ℕ} {u v : List ℕ} (left : (x : ℕ) → Sub (x ∷ []
       all x (yes l) = f x l
       all x (no m) = (K, neither (λ s. m (left x s)) (λ s. m (right x s)), omega arith)
 
-  pub letter_found : (r : Option ℕ)
-      → MatchOption r ((x : ℕ) → 0 ≤ x → x < n → SaysMore K degree u v x) (λ x. (0 ≤ x) × (x < n) × SaysLess K degree u v x × ((y : ℕ) → 0 ≤ y → y < x → SaysMore K degree u v y))
-      → IsSome r
-  letter_found None all = absurd (some_letter (λ x l. all x (omega arith) l))
-  letter_found (Some x) found = refl
+-- so a letter before which all say more is a letter of the words
+pub letter_inside : {K degree n : ℕ} (i j : ℕ) (s t : List ℕ) → Below n s → Below n t → degree < K → Degree K degree (drop i s) (drop j t) → (x : ℕ)
+    → ((y : ℕ) → y < x → SaysMore K degree (drop i s) (drop j t) y) → x < n
+letter_inside {K} {degree} {n} i j s t left right b d x tried = go (dec_lt x n)
+  where
+    go : Dec (x < n) → x < n
+    go (yes l) = l
+    go (no m) = absurd (some_letter (λ y o. below_end i s left o) (λ y o. below_end j t right o) b d (λ y l. tried y (omega arith)))
+
+-- the letters before the next one, of which the last has just been asked
+pub tried_more : {K degree x d : ℕ} {u v : List ℕ} → Follow ℕ_discrete K x u v d → degree ≤ d
+    → ((y : ℕ) → y < x → SaysMore K degree u v y) → (y : ℕ) → y < x + 1 → SaysMore K degree u v y
+tried_more {K} {degree} {x} {d} {u} {v} f l tried y b = go (dec_lt y x)
+  where
+    go : Dec (y < x) → SaysMore K degree u v y
+    go (yes h) = tried y h
+    go (no h) = let e : y ≡ x = omega arith in rw e (d, f, l)
 
 -- ── The row ──
 

@@ -9,7 +9,6 @@ ghost use Rattle.words.specs.RowSteps.{cap};
 ghost use Rattle.words.specs.Stretches.{Rows};
 
 use crate::vector::Coordinates;
-use std::cmp::Ordering;
 use std::marker::Model;
 
 /// The rows of the table: the last is for 4,096 places, which is as many as a word has.
@@ -102,6 +101,8 @@ impl<'a> Stretches<'a> {
     }
 
     /// The degree of the end parts at the two ends of a stretch that is not empty, by two stretches that cover it.
+    // Not inlined, so that the search of a row's letters, which seldom comes here, stays a short loop.
+    #[inline(never)]
     fn least(&self, from: usize, to: usize) -> u32
         requires some { from < to }
         requires inside { to ≤ length self.now }
@@ -118,10 +119,9 @@ impl<'a> Stretches<'a> {
         requires second { there ≤ length self.now }
         ensures { Degree (cap self.now) result (drop here self.now) (drop there self.now) }
     {
-        match here.cmp(&there) {
-            Ordering::Less => self.least(here, there),
-            Ordering::Greater => self.least(there, here),
-            Ordering::Equal => self.cap(),
+        if here == there {
+            return self.cap();
         }
+        self.least(here.min(there), here.max(there))
     }
 }

@@ -1,21 +1,14 @@
-use Rattle.std.proofs.Common.{arith, rules}
-use Rattle.std.proofs.lemmas.Iterator.{first_from_Range}
-use Rattle.words.specs.Reading.{end_part}
-use Rattle.words.specs.RowSteps.{cap}
-use Rattle.words.proofs.RowLetters.{SaysLess, SaysMore, below_end, letter_found}
+use Rattle.std.proofs.Common.{arith}
+use Rattle.words.proofs.RowLetters.{letter_inside, tried_more}
 use Rattle.words.proofs.stairs.Pair.first_letter.Goals as goal
 
-pub unwrap-requires : goal.unwrap-requires
-unwrap-requires c =
-    let e = c.args.self.now in
-    let K = cap e.right.word in
-    letter_found (λ x s. below_end e.left.at e.left.word c.letters.ensures.left s) (λ x s. below_end e.right.at e.right.word c.letters.ensures.right s)
-    c.requires.differ c.requires.degree _
-    (first_from_Range _ _ _ _ (SaysLess K c.args.degree (end_part e.left) (end_part e.right)) (SaysMore K c.args.degree (end_part e.left) (end_part e.right)) c.find.ensures.ran (λ x q called. search rules) (λ x q called. search rules))
+pub loop-letter-preserved : goal.loop-letter-preserved
+loop-letter-preserved c = tried_more c.say.ensures c.if-say-degree.false c.loop-letter.invariant
 
-pub returns-clause-first : goal.returns-clause-first
-returns-clause-first c =
+pub unreachable-requires : goal.unreachable-requires
+unreachable-requires c =
     let e = c.args.self.now in
-    let K = cap e.right.word in
-    let found = rw c.unwrap.ensures at (first_from_Range _ _ _ _ (SaysLess K c.args.degree (end_part e.left) (end_part e.right)) (SaysMore K c.args.degree (end_part e.left) (end_part e.right)) c.find.ensures.ran (λ x q called. search rules) (λ x q called. search rules)) in
-    record { says = found.2; before = λ y l. found.3 y (omega arith) l }
+    let known = c.letters-letters.ensures in
+    let inside =
+    letter_inside e.left.at e.right.at e.left.word e.right.word known.left known.right c.requires.differ c.requires.degree c.loop-letter.letter c.loop-letter.invariant in
+    omega (arith, inside, c.loop-letter-test.false)
