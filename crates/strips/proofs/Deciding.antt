@@ -1,16 +1,10 @@
 -- What the order of the letters decides: whether two letters are the same, whether one occurs in a word, and so what the
 -- different letters of a word are.
-use Rattle.std.proofs.Common.{◌≡◌, ℕ, true, false, ◌⊎◌, List, [], ◌∷◌, Bool, ◌||◌, Decides, Ordering, Less, Equal, Greater, sym, refl, ◌∙◌, subst, ap, inl, inr, ⊎_elim, arith}
+use Rattle.std.proofs.Common.{◌≡◌, ℕ, ◌+◌, ◌<◌, true, false, ◌⊎◌, List, [], ◌∷◌, length, get_or, take, Decides, Ordering, Less, Equal, Greater, sym, refl, ◌∙◌, subst, inl, inr, ⊎_elim, arith}
 use mathlib.Core.Logic.{∥∥₁_elim}
 use native.Mathlib.Bridge.{le_prop}
-use Rattle.std.specs.List.{list_any}
-use Rattle.std.specs.Ordering.{is_eq}
 use Rattle.strips.specs.Words.{In, AtMost}
-use Rattle.strips.proofs.Letters.{Different, no_more}
-
-or_true : (b : Bool) → (b || true) ≡ true
-or_true true = refl
-or_true false = refl
+use Rattle.strips.proofs.Letters.{Different, in_front, in_more, in_place, no_more}
 
 pub yes : {P : Type 0} → P → Decides true P
 yes p = (λ _. p, λ _. refl)
@@ -66,21 +60,10 @@ module _ {A : Type 0} (o : A → A → Ordering) (same : (a b : A) → o a b ≡
         few.all,
       )
 
-  first_or_later : (a b : A) (w : List A) (t : Bool) (x : Ordering) → o b a ≡ x → (is_eq x || t) ≡ true → (t ≡ true → In a w) → In a (b ∷ w)
-  first_or_later a b w t Less e k later = inr (later k)
-  first_or_later a b w t Equal e k later = inl (sym (same b a e))
-  first_or_later a b w t Greater e k later = inr (later k)
+  -- A scan of the word for a letter: the place that it has come to holds the letter,
+  pub scan_found : (w : List A) (i : ℕ) (a b : A) → i < length w → b ≡ get_or w i b → o b a ≡ Equal → In a w
+  scan_found w i a b inside e equal = in_front a (i + 1) w (subst (λ x. In x (take (i + 1) w)) (same b a equal) (in_place w i b inside e))
 
-  -- A test of each letter tells whether the letter occurs.
-  any_occurs : (a : A) (w : List A) → list_any (λ b. is_eq (o b a)) w ≡ true → In a w
-  any_occurs a [] h = absurd (let z : ◌≡◌ {A = ℕ} 0 1 = cc in omega arith)
-  any_occurs a (b ∷ w) h = first_or_later a b w (list_any (λ b. is_eq (o b a)) w) (o b a) refl h (any_occurs a w)
-
-  occurs_any : (a : A) (w : List A) → In a w → list_any (λ b. is_eq (o b a)) w ≡ true
-  occurs_any a [] h = absurd h
-  occurs_any a (b ∷ w) h =
-      ⊎_elim (λ e. ap (λ x. is_eq x || list_any (λ b. is_eq (o b a)) w) (subst (λ y. o y a ≡ Equal) e (itself a)))
-      (λ k. ap (λ t. is_eq (o b a) || t) (occurs_any a w k) ∙ or_true (is_eq (o b a))) h
-
-  pub any_decides : (a : A) (w : List A) (r : Bool) → r ≡ list_any (λ b. is_eq (o b a)) w → Decides r (In a w)
-  any_decides a w r e = (λ h. any_occurs a w (sym e ∙ h), λ h. e ∙ occurs_any a w h)
+  -- or another one.
+  pub scan_more : (w : List A) (i : ℕ) (a b : A) → i < length w → b ≡ get_or w i b → (o b a ≡ Equal → ⊥) → (In a (take i w) → ⊥) → In a (take (i + 1) w) → ⊥
+  scan_more w i a b inside e other none h = ⊎_elim none (λ k. other (subst (λ x. o b x ≡ Equal) (sym k) (itself b))) (in_more a w i b inside e h)

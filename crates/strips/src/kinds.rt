@@ -19,7 +19,13 @@ pub(crate) fn admits<L: OrderedLetter>(word: &[L], letter: L) -> bool
 fn is_present<L: OrderedLetter>(word: &[L], letter: L) -> bool
     ensures { Decides result (In letter word.now) }
 {
-    word.iter().any(|other| other.compare(letter).is_eq())
+    // A loop, since the compiler makes one over many letters at a time of it, and of `any` it does not.
+    for other in word {
+        if other.compare(letter).is_eq() {
+            return true;
+        }
+    }
+    false
 }
 
 /// Whether there are fewer than 64 different letters in the word. `filler` may be any letter.
