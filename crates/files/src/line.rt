@@ -68,9 +68,9 @@ impl<L: CodedLetter> Text for PlatesLine<'_, L> {
     ghost text = { λ line. line_text line.first line.second line.side (map L.code line.row.now) };
 
     fn put<O: Output>(&self, output: &mut O) {
-        output.put_number(self.first);
+        output.put_number(self.first as u64);
         output.put(" ");
-        output.put_number(self.second);
+        output.put_number(self.second as u64);
         put_row(output, self.side, self.row);
     }
 }
@@ -84,9 +84,9 @@ fn put_row<O: Output, L: CodedLetter>(output: &mut O, side: Side, row: &[L])
         return;
     };
     output.put(" ");
-    output.put_number(rest.len());
+    output.put_number(rest.len() as u64);
     output.put(side_text(side));
-    output.put_number(first.code());
+    output.put_number(first.code() as u64);
     put_commas(output, rest);
     output.put("\n");
 }
@@ -96,8 +96,11 @@ fn put_commas<O: Output, L: CodedLetter>(output: &mut O, row: &[L])
     ensures { O.took output.old (comma_text (map L.code row.now)) output.new }
 {
     for letter in row {
+        if output.is_done() {
+            return;
+        }
         output.put(",");
-        output.put_number(letter.code());
+        output.put_number(letter.code() as u64);
     }
 }
 
@@ -117,9 +120,9 @@ impl Text for Refusal {
 
     fn put<O: Output>(&self, output: &mut O) {
         output.put("fault ");
-        output.put_number(self.number);
+        output.put_number(self.number as u64);
         output.put(" at ");
-        output.put_number(self.place);
+        output.put_number(self.place as u64);
         output.put("\n");
     }
 }

@@ -1,10 +1,10 @@
 //! Outputs: what takes a text piece by piece, so that a text is spelled in one place, be it measured or written.
 
-ghost use Rattle.std.specs.Prelude.{◌≡◌, ℕ, List, [], ◌++◌, length};
+ghost use Rattle.std.specs.Prelude.{◌≡◌, ℕ, List, [], ◌++◌, length, decimal, true};
 ghost use Rattle.files.specs.Outputs.{room_behind, Fills};
 ghost use Rattle.files.specs.OutputLaws.{room_behind_nothing, room_behind_both, fills_nothing, fills_both};
 
-use itoa::{Buffer, Integer};
+use itoa::{Buffer, write_digits};
 
 /// Takes a text, piece by piece.
 // Not `std::fmt::Write`: its contract does not say when a write succeeds, so no refusal for want of room is proved by it.
@@ -16,20 +16,22 @@ pub(crate) trait Output {
     fn put(&mut self, text: &str)
         ensures { took self.old text.now self.new };
 
-    // To take nothing changes nothing, and two texts are taken as the one that they make.
-    ghost nothing: { (a : Self) → took a [] a };
-
-    ghost both: { (a b c : Self) (s t : List ℕ) → took a s b → took b t c → took a (s ++ t) c };
-
     /// Takes a number in decimal.
-    final fn put_number<N: Integer>(&mut self, number: N)
-    where
-        Self: Sized,
-        ensures { took self.old (N.text number) self.new }
+    fn put_number(&mut self, number: u64)
+        ensures { took self.old (decimal number) self.new }
     {
         let mut digits = Buffer::new();
         self.put(digits.format(number));
     }
+
+    /// Whether it stays as it is, whatever it is given: a long text need not be gone through to its end then.
+    fn is_done(&self) -> bool
+        ensures { result ≡ true → (s : List ℕ) → took self.now s self.now };
+
+    // To take nothing changes nothing, and two texts are taken as the one that they make.
+    ghost nothing: { (a : Self) → took a [] a };
+
+    ghost both: { (a b c : Self) (s t : List ℕ) → took a s b → took b t c → took a (s ++ t) c };
 }
 
 /// Measures a text: how much room is left behind it; none where it does not fit.
@@ -47,6 +49,10 @@ impl Output for Room {
 
     fn put(&mut self, text: &str) {
         self.left = self.left.and_then(|room| room.checked_sub(text.len()));
+    }
+
+    fn is_done(&self) -> bool {
+        self.left.is_none()
     }
 }
 
@@ -71,5 +77,21 @@ impl Output for Filler<'_> {
             self.out[self.filled..end].copy_from_slice(text.as_bytes());
             self.filled = end;
         }
+    }
+
+    // Its digits are written in place; those of the buffer only tell how many there are, and where this is inlined they are
+    // never written.
+    #[inline(always)]
+    fn put_number(&mut self, number: u64) {
+        let mut digits = Buffer::new();
+        let end = self.filled.saturating_add(digits.format(number).len());
+        if end <= self.out.len() {
+            write_digits(number, self.out, end);
+            self.filled = end;
+        }
+    }
+
+    fn is_done(&self) -> bool {
+        false
     }
 }
