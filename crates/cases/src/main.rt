@@ -7,7 +7,7 @@
 #![tactic(auto)]
 
 use files::list;
-use hexdump::from_hex;
+use hexdump::from_lowercase_hex;
 use pairs::text_of;
 use std::alloc::Global;
 use std::{fs, io};
@@ -25,9 +25,9 @@ fn run_table<F: Fn(Global, &[u8]) -> io::Result<Vec<u8>>>(
     let heap = rt.alloc();
     let index = fs::read_to_string(rt, format!(in heap; "{folder}/index")?)?;
     for name in index.lines() {
-        let hex = fs::read(rt, format!(in heap; "{folder}/{name}.hex")?)?;
         let expected = fs::read(rt, format!(in heap; "{folder}/{name}.{ending}")?)?;
-        let text = make(heap, &from_hex(heap, &hex)?)?;
+        let hex = fs::read(rt, format!(in heap; "{folder}/{name}.hex")?)?;
+        let text = make(heap, &from_lowercase_hex(heap, hex)?)?;
         let result = if text == expected {
             "as expected"
         } else {

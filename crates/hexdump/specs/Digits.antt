@@ -1,6 +1,6 @@
 -- The bytes that a text shows as hexadecimal digits.
-use Rattle.std.specs.Prelude.{ℕ, ◌+◌, ◌*◌, nat_lt, if◌then◌else◌, List, [], ◌∷◌}
-use Rattle.std.specs.Char.{digit_value}
+use Rattle.std.specs.Prelude.{ℕ, ◌+◌, ◌*◌, nat_lt, if◌then◌else◌, List, [], ◌∷◌, Bool, not}
+use Rattle.std.specs.Char.{digit_value, is_ascii_uppercase}
 
 -- The values of the hexadecimal digits among the characters, in order, of either case; the other characters are passed over.
 abbrev pub digits_of : List ℕ → List ℕ
@@ -16,3 +16,7 @@ paired (high ∷ low ∷ digits) = (high * 16 + low) ∷ paired digits
 -- The bytes that the digits of the text stand for.
 abbrev pub bytes_of : List ℕ → List ℕ
 bytes_of text = paired (digits_of text)
+
+-- The characters but for the capital letters.
+abbrev pub is_no_capital : ℕ → Bool
+is_no_capital c = not (is_ascii_uppercase c)

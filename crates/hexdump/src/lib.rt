@@ -2,7 +2,8 @@
 #![tactic(auto)]
 
 ghost use Rattle.std.specs.Prelude.{◌≡◌, IfOk};
-ghost use Rattle.hexdump.specs.Digits.{bytes_of};
+ghost use Rattle.std.specs.List.{filter};
+ghost use Rattle.hexdump.specs.Digits.{bytes_of, is_no_capital};
 
 use std::alloc::{AllocError, Global};
 
@@ -29,4 +30,13 @@ pub fn from_hex(heap: Global, text: &[u8]) -> Result<Vec<u8>, AllocError>
         }
     }
     Ok(bytes)
+}
+
+/// The bytes that the hexadecimal digits of the text stand for, where only small ones are digits: a capital divides, as every
+/// other character does.
+pub fn from_lowercase_hex(heap: Global, mut text: Vec<u8>) -> Result<Vec<u8>, AllocError>
+    ensures { IfOk result (λ bytes. bytes.items ≡ bytes_of (filter is_no_capital text.items)) }
+{
+    text.retain(|character| !character.is_ascii_uppercase());
+    from_hex(heap, &text)
 }

@@ -5,7 +5,7 @@
 #![tactic(auto)]
 
 use files::list;
-use hexdump::from_hex;
+use hexdump::from_lowercase_hex;
 use std::{fs, io};
 
 /// Is the file of this name listed as expected?
@@ -13,7 +13,7 @@ fn matches(rt: &HostRuntime, name: &str) -> io::Result<bool> {
     let heap = rt.alloc();
     let hex = fs::read(rt, format!(in heap; "{name}.hex")?)?;
     let expected = fs::read_to_string(rt, format!(in heap; "{name}.list")?)?;
-    let bytes = from_hex(heap, &hex)?;
+    let bytes = from_lowercase_hex(heap, hex)?;
     let text = list(heap, &bytes)?;
     Ok(text == expected)
 }
